@@ -1,4 +1,4 @@
--- What the laws of a slot ask of the trace holds of every reached trace.
+-- Every reached trace meets the conditions that the laws of a slot set for a trace.
 use Rattle.std.proofs.Common.{◌∙◌, List, ap, inl, inr, arith}
 use Rattle.std.specs.List.{list_any}
 use Rattle.mencius_base.specs.declared.message.Message.{Message}

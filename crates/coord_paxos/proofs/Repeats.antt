@@ -1,4 +1,4 @@
--- The same promise or acceptance, counted twice.
+-- Counting the same promise or acceptance twice changes nothing.
 use Rattle.std.proofs.Common.{◌≡◌, ℕ, Bool, true, false, Option, Some, None, refl, ◌∙◌, ap, cond, eqb, ◌&&◌}
 use Rattle.std.specs.Prelude.{is_none}
 use Rattle.std.proofs.lemmas.List.{set-set}
@@ -14,7 +14,7 @@ with_promise_twice : (s : SlotState) (q : ℕ) (o : Option Vote)
     → with_promise (with_promise s q o) q o ≡ with_promise s q o
 with_promise_twice s q o = rw (set-set s.promises q true true, higher_vote_twice s.reported o)
 
--- a promise that adds nothing, where nothing is due
+-- a promise that adds nothing to a slot is ignored, if no proposal is due
 promise_ignored : (s : SlotState) (q b : ℕ) (o : Option Vote) → with_promise s q o ≡ s → due_proposal s ≡ None
     → (after_promise s q b o ≡ s) × (promise_answer s q b o ≡ None)
 promise_ignored s q b o same done = either (eqb b s.trying)
@@ -29,7 +29,7 @@ promise_ignored s q b o same done = either (eqb b s.trying)
     )
     either false = (refl, refl)
 
--- nothing is due once a proposal is noted
+-- no proposal is due once one is recorded
 proposed_once : (l : Option Value) (a : Bool) (z x : Value)
     → cond ((is_none l && is_none (Some z)) && a) (Some x) None ≡ None
 proposed_once None a z x = refl
@@ -65,7 +65,7 @@ promise_twice s q b o = either (eqb b s.trying) refl
 with_acceptance_twice : (s : SlotState) (q : ℕ) → with_acceptance (with_acceptance s q) q ≡ with_acceptance s q
 with_acceptance_twice s q = rw (set-set s.accepts q true true)
 
--- an acceptance that adds nothing, where nothing is due
+-- an acceptance that adds nothing to a slot is ignored, if no value is decided
 acceptance_ignored : (s : SlotState) (q b : ℕ) → with_acceptance s q ≡ s → due_decision s ≡ None
     → (after_acceptance s q b ≡ s) × (acceptance_answer s q b ≡ None)
 acceptance_ignored s q b same done = either (eqb b s.trying)

@@ -1,4 +1,4 @@
--- The slot after the lines of each call is what the call leaves.
+-- After the lines of each call, the slot in the trace is the one that the call leaves.
 use Rattle.std.proofs.Common.{◌≡◌, ◌≢◌, ℕ, ◌<◌, ◌≤◌, Bool, true, false, List, [], ◌∷◌, Option, Some, None, map, refl, sym, ◌∙◌, ap, arith, cond, leb, ltb, eqb, ◌&&◌, ◌||◌, ⊎_elim}
 use Rattle.mencius_base.specs.declared.message.Value.TheVariants.{Noop}
 use Rattle.std.specs.Option.{option_or, option_map_or}
@@ -88,7 +88,7 @@ learns m w p i z = slot_at-learning m w p i z ∙ learning_once (slot_at m w p i
 
 -- ---- begin
 
--- p's slot for i, were b the ballot that it tries
+-- p's slot for i as it would be if b were the ballot that p tries
 abbrev pub slot_trying : Membership → Trace → ServerId → Inst → BallotNo → SlotState
 slot_trying m w p i b = record (slot_at m w p i) {
   trying = b;
@@ -116,7 +116,7 @@ slot_at-tried m w p i b above =
     (ap (λ (c : ℕ). map (promisers (l ∷ w) p i c) (numbers_below m.count)) tried)
     (ap (λ (c : ℕ). map (accepters (l ∷ w) p i c) (numbers_below m.count)) tried)
 
--- of what was not promised nothing is reported
+-- a message that is not a promise of ballot b of i reports no vote there
 report_of : (i b : ℕ) (x : Message) → ((q : ℕ) → is_promise i b q x ≡ false) → vote_reported i b x ≡ None
 report_of i b (Promise from to inst ballot reports) none = either (eqb inst i && eqb ballot b) (none from)
   where
@@ -157,7 +157,7 @@ begins m w p i b above untried = slot_at-tried m w p i b above ∙ slot_untried 
 
 -- ---- add_promise
 
--- p's own proposal at a ballot above 0, or at ballot 0 of its own instance
+-- p may have made the proposal at ballot b of i if b is above 0, or if p owns i
 owned : (m : Membership) (p i b : ℕ) (o : Option Value) → (b ≡ 0 → owner m i ≡ p) → if_own m p i b o ≡ o
 owned m p i b o mine =
     ⊎_elim
@@ -205,13 +205,14 @@ uncounted_promise from to i b j c o other =
 uncounted_acceptance : (from to i b j c : ℕ) → (eqb i j && eqb b c) ≡ false → IsUncounted j c (Accepted from to i b)
 uncounted_acceptance from to i b j c other = record { promise = λ q. refl; acceptance = λ q. rw other; report = refl }
 
--- what is due says that nothing was proposed, and what is decided that nothing was learned
+-- a proposal is due only if nothing was proposed
 due_unsaid : (l o : Option Value) (a : Bool) (x z : Value)
     → cond ((is_none l && is_none o) && a) (Some x) None ≡ Some z → o ≡ None
 due_unsaid None None a x z e = refl
 due_unsaid None (Some y) a x z e = absurd (cc)
 due_unsaid (Some y) o a x z e = absurd (cc)
 
+-- a value is decided only if nothing was learned
 decided_unlearned : (l : Option Value) (a : Bool) (o : Option Value) (z : Value)
     → cond (is_none l && a) o None ≡ Some z → l ≡ None
 decided_unlearned None a o z e = refl
@@ -225,7 +226,7 @@ module _ (m : Membership) (w : Trace) (k p i from b : ℕ) (r : Option Vote)
   promise_heard : b ≡ tried_ballot w p i → slot_at m (Heard k p ∷ w) p i ≡ with_promise (slot_at m w p i) from r
   promise_heard same = slot_at-heard_promise m w k p i from r (e ∙ ap (λ (c : ℕ). Some (Promise from p i c r)) same)
 
-  -- what is due by all promises heard, this one among them
+  -- the slot that counts this promise has the proposal due that follows from all promises heard, including this one
   promise_due : 0 < b → b ≡ tried_ballot w p i
       → due_proposal (with_promise (slot_at m w p i) from r)
       ≡ due_proposal_from (learned_value w p i) (proposal w i b) (are_majority m (promisers (Heard k p ∷ w) p i b))
@@ -292,7 +293,7 @@ module _ (m : Membership) (w : Trace) (k p i from b : ℕ)
   acceptance_heard : b ≡ tried_ballot w p i → slot_at m (Heard k p ∷ w) p i ≡ with_acceptance (slot_at m w p i) from
   acceptance_heard same = slot_at-heard_acceptance m w k p i from (e ∙ ap (λ (c : ℕ). Some (Accepted from p i c)) same)
 
-  -- what is decided by all acceptances heard, this one among them
+  -- the slot that counts this acceptance decides the value that follows from all acceptances heard, including this one
   acceptance_due : (b ≡ 0 → owner m i ≡ p) → b ≡ tried_ballot w p i
       → due_decision (with_acceptance (slot_at m w p i) from)
       ≡ due_decision_from (learned_value w p i) (proposal w i b) (are_majority m (accepters (Heard k p ∷ w) p i b))
@@ -386,7 +387,7 @@ pub uncounted : (m : Membership) (w : Trace) (k p i : ℕ) (x : Message) → sli
     → slot_at m (Heard k p ∷ w) p i ≡ slot_at m w p i
 uncounted m w k p i x e none = slot_at-heard m w k p i x e (counts_nothing i (tried_ballot w p i) x none)
 
--- a line that proposes nothing at the ballot that p tries
+-- a line that proposes nothing at ballot b of i leaves the proposal there unchanged
 still_proposed : (w : Trace) (l : Line) (i b : ℕ) → proposal_by i b l ≡ None → proposal (l ∷ w) i b ≡ proposal w i b
 still_proposed w l i b none = oldest_quiet (proposal_by i b) l w none
 

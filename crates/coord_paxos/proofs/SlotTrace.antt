@@ -21,7 +21,7 @@ use Rattle.coord_paxos.specs.Reached.{if_own, slot_at}
 use Rattle.mencius_model.proofs.trace.QuietLines.{IsQuiet, quiet_heard, IsUncounted}
 use Rattle.mencius_model.proofs.trace.Parts.{vote_of}
 
--- two slots with the same parts
+-- two slots with the same parts are equal
 same_parts : (m n : Membership) (a b : ℕ) (o d : Option Vote) (e f : Option Value) (g h : ℕ) (x y : Option Vote)
     (z l : Option Value) (xs r s ys : List Bool)
     → m ≡ n → a ≡ b → o ≡ d → e ≡ f → g ≡ h → x ≡ y → z ≡ l → xs ≡ r → s ≡ ys
@@ -56,7 +56,7 @@ pub same_slot : (s r : SlotState) → s.members ≡ r.members → s.promised ≡
     → s.accepts ≡ r.accepts → s ≡ r
 same_slot s r = same_parts _ _ _ _ _ _ _ _ _ _ _ _ _ _ _ _ _ _
 
--- p's slot for i, with the sets of other messages heard
+-- p's slot for i, with its reported vote and its two sets computed from the messages hs
 abbrev pub slot_hearing : Membership → Trace → ServerId → Inst → List Message → SlotState
 slot_hearing m w p i hs = record (slot_at m w p i) {
   reported = fold higher_vote None (map (vote_reported i (tried_ballot w p i)) hs);
@@ -64,7 +64,8 @@ slot_hearing m w p i hs = record (slot_at m w p i) {
   accepts = map (λ (q : ℕ). list_any (is_acceptance i (tried_ballot w p i) q) hs) (numbers_below m.count);
 }
 
--- a line that proposes nothing and tries nothing
+-- a line that proposes nothing at i, and that is not a Prepare of p there, leaves the slot's proposal and the ballot
+-- tried unchanged
 slot_at-saying : (m : Membership) (w : Trace) (l : Line) (p i : ℕ) → ((b : ℕ) → proposal_by i b l ≡ None)
     → tried_by p i l ≡ 0
     → slot_at m (l ∷ w) p i ≡ record (slot_hearing m w p i (heard_messages (l ∷ w) p)) {
@@ -86,7 +87,7 @@ slot_at-saying m w l p i unproposed untried =
     (ap (λ (b : ℕ). map (promisers (l ∷ w) p i b) (numbers_below m.count)) tried)
     (ap (λ (b : ℕ). map (accepters (l ∷ w) p i b) (numbers_below m.count)) tried)
 
--- a quiet line changes at most what was heard
+-- a quiet line changes a slot at most by the messages that p heard
 pub slot_at-unsaid : (m : Membership) (w : Trace) (l : Line) (p i : ℕ) → IsQuiet p i l
     → slot_at m (l ∷ w) p i ≡ slot_hearing m w p i (heard_messages (l ∷ w) p)
 slot_at-unsaid m w l p i quiet =
@@ -113,7 +114,7 @@ slot_at-heard m w k p i x e un =
     (set_quiet (is_promise i (tried_ballot w p i)) (heard_messages w p) x m.count un.promise)
     (set_quiet (is_acceptance i (tried_ballot w p i)) (heard_messages w p) x m.count un.acceptance)
 
--- an acceptance at the ballot that is tried
+-- when p hears an acceptance at the ballot that it tries, its slot counts the acceptance
 pub slot_at-heard_acceptance : (m : Membership) (w : Trace) (k p i from : ℕ)
     → slice_get (sent_messages w) k ≡ Some (Accepted from p i (tried_ballot w p i))
     → slot_at m (Heard k p ∷ w) p i ≡ with_acceptance (slot_at m w p i) from
@@ -126,7 +127,7 @@ slot_at-heard_acceptance m w k p i from e =
     (set_more (is_acceptance i (tried_ballot w p i)) (heard_messages w p) _ m.count from
     (λ q. rw (eq-eqb i i refl, eq-eqb (tried_ballot w p i) (tried_ballot w p i) refl)))
 
--- a promise of it
+-- when p hears a promise of the ballot that it tries, its slot counts the promise and its vote
 pub slot_at-heard_promise : (m : Membership) (w : Trace) (k p i from : ℕ) (o : Option Vote)
     → slice_get (sent_messages w) k ≡ Some (Promise from p i (tried_ballot w p i) o)
     → slot_at m (Heard k p ∷ w) p i ≡ with_promise (slot_at m w p i) from o
@@ -140,7 +141,7 @@ slot_at-heard_promise m w k p i from o e =
     (λ q. rw (eq-eqb i i refl, eq-eqb (tried_ballot w p i) (tried_ballot w p i) refl)))
     (set_quiet (is_acceptance i (tried_ballot w p i)) (heard_messages w p) _ m.count (λ q. refl))
 
--- p accepts a value that was proposed
+-- after p accepts a value that was proposed at b, b is its promised ballot, and its vote is that value at b
 pub slot_at-accepted : (m : Membership) (w : Trace) (p q i b : ℕ) (z : Value) → promised_ballot w p i ≤ b
     → proposal w i b ≡ Some z
     → slot_at m (Sent (Accepted p q i b) ∷ w) p i
@@ -164,7 +165,7 @@ vote_stays w l i None said = refl
 vote_stays w l i (Some b) said =
     ap (option_map (λ x. record { ballot = b; value = x })) (oldest_stays (proposal_by i b) l w _ (said b refl).1 ∙ sym (said b refl).1)
 
--- a line that may propose something at i, and else is quiet
+-- a line that may propose a value at i, and is otherwise quiet, changes at most the slot's proposal
 pub slot_at-proposing : (m : Membership) (w : Trace) (l : Line) (p i : ℕ) (o : Option Value) → IsVoted w p i
     → promised_by p i l ≡ 0 → accepted_by p i l ≡ None → learned_by p i l ≡ None → tried_by p i l ≡ 0
     → heard_messages (l ∷ w) p ≡ heard_messages w p
@@ -187,7 +188,7 @@ slot_at-proposing m w l p i o voted unpromised unaccepted unlearned untried deaf
     (ap (λ (b : ℕ). map (accepters (l ∷ w) p i b) (numbers_below m.count)) tried
     ∙ ap (λ (hs : List Message). map (λ (q : ℕ). list_any (is_acceptance i (tried_ballot w p i) q) hs) (numbers_below m.count)) deaf)
 
--- p proposes at the ballot that it tries
+-- after p proposes a value at the ballot that it tries, the value is its proposal
 pub slot_at-proposed : (m : Membership) (w : Trace) (p i b : ℕ) (z : Value) → IsVoted w p i → 0 < b
     → b ≡ tried_ballot w p i → proposal w i b ≡ None
     → slot_at m (Sent (Propose p i b z) ∷ w) p i ≡ record (slot_at m w p i) { proposal = Some z }
@@ -196,7 +197,7 @@ slot_at-proposed m w p i b z voted tried same unsaid =
     (ap (λ (c : ℕ). if_own m p i c (proposal (Sent (Propose p i b z) ∷ w) i c)) (sym same)
     ∙ rw (unsaid, eq-eqb i i refl, eq-eqb b b refl, lt-ltb 0 b tried, or-true (eqb (owner m i) p)))
 
--- the owner suggests
+-- after the owner suggests a ticket, the ticket is its proposal
 pub slot_at-suggested : (m : Membership) (w : Trace) (p i t : ℕ) → IsVoted w p i → owner m i ≡ p → tried_ballot w p i
     ≡ 0
     → proposal w i 0 ≡ None
@@ -206,7 +207,7 @@ slot_at-suggested m w p i t voted mine untried unsaid =
     (ap (λ (c : ℕ). if_own m p i c (proposal (Sent (Suggest p i t) ∷ w) i c)) untried
     ∙ rw (unsaid, eq-eqb i i refl, eq-eqb (owner m i) p mine))
 
--- p promises
+-- after p promises a ballot, it is p's promised ballot
 pub slot_at-promised : (m : Membership) (w : Trace) (p q i b : ℕ) (o : Option Vote) → promised_ballot w p i ≤ b
     → slot_at m (Sent (Promise p q i b o) ∷ w) p i ≡ record (slot_at m w p i) { promised = b }
 slot_at-promised m w p q i b o high =
@@ -219,7 +220,7 @@ slot_at-promised m w p q i b o high =
     (option_or-none (learned_value w p i))
     refl refl refl refl refl
 
--- p says that it learned a value, whatever it had learned
+-- a line that says that p learned a value sets the learned value, unless p learned one before
 pub slot_at-learning : (m : Membership) (w : Trace) (p i : ℕ) (z : Value)
     → slot_at m (Learned p i z ∷ w) p i
     ≡ record (slot_at m w p i) { learned = option_or (learned_value w p i) (Some z) }
@@ -233,7 +234,7 @@ slot_at-learning m w p i z =
     (ap (option_or (learned_value w p i)) by)
     refl refl refl refl refl
 
--- p learns a value
+-- after p learns its first value, that is its learned value
 pub slot_at-learned : (m : Membership) (w : Trace) (p i : ℕ) (z : Value) → learned_value w p i ≡ None
     → slot_at m (Learned p i z ∷ w) p i ≡ record (slot_at m w p i) { learned = Some z }
 slot_at-learned m w p i z unlearned =

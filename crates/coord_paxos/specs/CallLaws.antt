@@ -1,4 +1,4 @@
--- What the calls of one slot promise together, in the subject's own words.
+-- The guarantees that the calls of one slot give together.
 use Rattle.std.specs.Prelude.{◌≡◌, ◌<◌, ◌≤◌, true, Option, Some, None, Contains}
 use Rattle.mencius_base.specs.Numbers.{ServerId, BallotNo}
 use Rattle.mencius_base.specs.declared.message.Value.{Value}
@@ -9,17 +9,17 @@ use Rattle.mencius_base.specs.declared.message.Answer.TheVariants.{Promise, Know
 
 -- ---- the promise
 
--- a ballot that is not above the promise is not promised
+-- a slot only promises a ballot that is greater than its promised ballot
 abbrev pub PromisesAbove : Type 0
 PromisesAbove = (s : SlotState) (b : BallotNo) (o : Option Vote) → prepare_answer s b ≡ Promise o → s.promised < b
 
--- a promise binds: nothing below it is accepted
+-- once a slot has promised a ballot, a proposal at a lower ballot leaves the slot unchanged
 abbrev pub PromiseBinds : Type 0
 PromiseBinds =
     (s : SlotState) (b c : BallotNo) (x : Value) (o : Option Vote) → prepare_answer s b ≡ Promise o → c < b
     → after_accept (after_prepare s b) c x ≡ after_prepare s b
 
--- what is promised only grows
+-- neither `prepare` nor `accept` lowers the promised ballot
 abbrev pub PromiseGrows : Type 0
 PromiseGrows =
     (s : SlotState) (b : BallotNo) (z : Value)
@@ -27,7 +27,7 @@ PromiseGrows =
 
 -- ---- a new ballot
 
--- both sets are empty after it
+-- after `begin`, no server is in the two sets
 abbrev pub BeginEmpties : Type 0
 BeginEmpties =
     (s : SlotState) (b : BallotNo)
@@ -35,14 +35,14 @@ BeginEmpties =
 
 -- ---- repeats
 
--- the same promise a second time changes nothing and calls for nothing
+-- counting the same promise a second time leaves the slot unchanged and calls for no proposal
 abbrev pub RepeatedPromiseIgnored : Type 0
 RepeatedPromiseIgnored =
     (s : SlotState) (q : ServerId) (b : BallotNo) (o : Option Vote)
     → (after_promise (after_promise s q b o) q b o ≡ after_promise s q b o)
     × (promise_answer (after_promise s q b o) q b o ≡ None)
 
--- nor does the same acceptance
+-- counting the same acceptance a second time leaves the slot unchanged and decides nothing
 abbrev pub RepeatedAcceptanceIgnored : Type 0
 RepeatedAcceptanceIgnored =
     (s : SlotState) (q : ServerId) (b : BallotNo)
@@ -51,13 +51,13 @@ RepeatedAcceptanceIgnored =
 
 -- ---- the vote reported
 
--- of equal ballots the first stands, and a smaller one changes nothing
+-- a vote leaves the reported vote unchanged if its ballot is equal or smaller
 abbrev pub FirstVoteStands : Type 0
 FirstVoteStands =
     (s : SlotState) (q : ServerId) (z x : Vote) → s.reported ≡ Some z → x.ballot ≤ z.ballot
     → (with_promise s q (Some x)).reported ≡ Some z
 
--- a greater ballot takes its place
+-- a vote with a greater ballot replaces the reported vote
 abbrev pub GreaterVoteReplaces : Type 0
 GreaterVoteReplaces =
     (s : SlotState) (q : ServerId) (z x : Vote) → s.reported ≡ Some z → z.ballot < x.ballot
@@ -65,14 +65,15 @@ GreaterVoteReplaces =
 
 -- ---- proposals
 
--- a value is proposed where none was proposed at this ballot and none is learned, and is noted
+-- `add_promise` returns a value only at the ballot tried, and only if none is proposed or learned. It then records the
+-- value as the proposal
 abbrev pub ProposesOnce : Type 0
 ProposesOnce =
     (s : SlotState) (q : ServerId) (b : BallotNo) (reported : Option Vote) (z : Value)
     → promise_answer s q b reported ≡ Some z
     → (s.proposal ≡ None) × (s.learned ≡ None) × (b ≡ s.trying) × ((after_promise s q b reported).proposal ≡ Some z)
 
--- until the next ballot the proposal stays, and no other one is due
+-- z stays the slot's proposal after each of these calls, and `add_promise` returns no value
 pub record KeepsProposal (s : SlotState) (z : Value) : Type 0 where
   pub unproposed : (q : ServerId) (b : BallotNo) (reported : Option Vote) → promise_answer s q b reported ≡ None
   pub prepare : (b : BallotNo) → (after_prepare s b).proposal ≡ Some z
@@ -82,18 +83,20 @@ pub record KeepsProposal (s : SlotState) (z : Value) : Type 0 where
   pub add_accept : (q : ServerId) (b : BallotNo) → (after_acceptance s q b).proposal ≡ Some z
   pub learn : (x : Value) → (after_learn s x).proposal ≡ Some z
 
+-- a proposal stays until the next ballot, and no other proposal is due
 abbrev pub ProposalStays : Type 0
 ProposalStays = (s : SlotState) (z : Value) → s.proposal ≡ Some z → KeepsProposal s z
 
--- ---- what is learned
+-- ---- the learned value
 
--- a value is learned from acceptances where none was learned, and it is this slot's own proposal there
+-- `add_accept` returns a value only at the ballot tried, and only if none is learned. The value is the slot's own
+-- proposal, and the slot learns it
 abbrev pub LearnsOwnProposal : Type 0
 LearnsOwnProposal =
     (s : SlotState) (q : ServerId) (b : BallotNo) (z : Value) → acceptance_answer s q b ≡ Some z
     → (s.proposal ≡ Some z) × (s.learned ≡ None) × (b ≡ s.trying) × ((after_acceptance s q b).learned ≡ Some z)
 
--- a learned value stays, and nothing more is proposed or decided
+-- z stays the learned value after each of these calls. `prepare` returns it, and nothing more is proposed or decided
 pub record KeepsLearned (s : SlotState) (z : Value) : Type 0 where
   pub known : (b : BallotNo) → prepare_answer s b ≡ Known z
   pub unproposed : (q : ServerId) (b : BallotNo) (reported : Option Vote) → promise_answer s q b reported ≡ None
@@ -106,5 +109,6 @@ pub record KeepsLearned (s : SlotState) (z : Value) : Type 0 where
   pub add_accept : (q : ServerId) (b : BallotNo) → (after_acceptance s q b).learned ≡ Some z
   pub learn : (x : Value) → (after_learn s x).learned ≡ Some z
 
+-- a learned value stays, and after it nothing more is proposed or decided
 abbrev pub LearnedStays : Type 0
 LearnedStays = (s : SlotState) (z : Value) → s.learned ≡ Some z → KeepsLearned s z

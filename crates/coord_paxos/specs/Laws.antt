@@ -1,5 +1,6 @@
--- A slot and the trace: each line that touches a slot leaves what the call makes of it, each
--- answer is the one that the trace asks for, and every other line leaves the slot alone.
+-- A slot follows the trace. Each line that touches a slot changes it as the matching call does, and every other line
+-- leaves it unchanged. Each call returns the value that the trace calls for. `Premises.antt` shows that `IsVoted`,
+-- which some laws require, holds in every trace that some journal makes.
 use Rattle.std.specs.Prelude.{◌≡◌, ◌≢◌, ◌<◌, Bool, false, [], ◌∷◌, Option, Some, None, ◌==◌, ◌&&◌, slice_get, Contains}
 use Rattle.mencius_base.specs.Numbers.{ServerId, Inst, BallotNo, TicketNo, MessageNo}
 use Rattle.mencius_base.specs.declared.message.Message.{Message}
@@ -16,13 +17,13 @@ use Rattle.coord_paxos.specs.Fresh.{new_slot}
 use Rattle.coord_paxos.specs.Slot.{acceptance_answer, after_accept, after_acceptance, after_begin, after_learn, after_prepare, after_promise, prepare_answer, promise_answer}
 use Rattle.coord_paxos.specs.Reached.{slot_at}
 
--- the slot of the trace in which nothing happened is a new one
+-- in the empty trace, each slot is a new slot
 abbrev pub SlotAtTheStart : Type 0
 SlotAtTheStart = (m : Membership) (p : ServerId) (i : Inst) → slot_at m [] p i ≡ new_slot m
 
 -- ---- suggest
 
--- the owner's first suggestion at its instance
+-- the owner's first suggestion at its instance becomes its proposal there, if the owner tries no ballot above 0
 abbrev pub SlotAfterSuggest : Type 0
 SlotAfterSuggest =
     (m : Membership) (w : Trace) (p : ServerId) (i : Inst) (t : TicketNo) → IsVoted w p i → owner m i ≡ p
@@ -32,13 +33,15 @@ SlotAfterSuggest =
 
 -- ---- prepare
 
--- what p answers to a Prepare is the acceptor's rule, by what the trace says of p
+-- `prepare` returns the reply that the acceptor's rule gives for p's promised ballot, vote and learned value in the
+-- trace
 abbrev pub PrepareAnswered : Type 0
 PrepareAnswered =
     (m : Membership) (w : Trace) (p : ServerId) (i : Inst) (b : BallotNo)
     → prepare_answer (slot_at m w p i) b
     ≡ prepare_answer_from (promised_ballot w p i) (vote w p i) b (learned_value w p i)
 
+-- after p sends its reply to a Prepare of q, if there is one, the slot is the one that `prepare` leaves
 abbrev pub SlotAfterPrepare : Type 0
 SlotAfterPrepare =
     (m : Membership) (w : Trace) (p q : ServerId) (i : Inst) (b : BallotNo)
@@ -49,6 +52,8 @@ SlotAfterPrepare =
 
 -- ---- accept
 
+-- after p sends its acceptance of the value proposed at b, if it accepts that value, the slot is the one that `accept`
+-- leaves
 abbrev pub SlotAfterAccept : Type 0
 SlotAfterAccept =
     (m : Membership) (w : Trace) (p q : ServerId) (i : Inst) (b : BallotNo) (z : Value) → proposal w i b ≡ Some z
@@ -57,7 +62,8 @@ SlotAfterAccept =
 
 -- ---- begin
 
--- p tries a ballot of which it heard nothing yet
+-- after p sends a Prepare of a ballot above the ballot it tried, the slot is the one that `begin` leaves. Nothing was
+-- heard or proposed at that ballot before (`IsUntried`)
 abbrev pub SlotAfterBegin : Type 0
 SlotAfterBegin =
     (m : Membership) (w : Trace) (p : ServerId) (i : Inst) (b : BallotNo) → tried_ballot w p i < b → IsUntried w p i b
@@ -65,7 +71,8 @@ SlotAfterBegin =
 
 -- ---- add_promise
 
--- a promise is answered by the value that is due, from all promises heard, this one among them
+-- when p hears a promise of a ballot above 0, `add_promise` returns the value that is due after all promises heard,
+-- including this one
 abbrev pub PromiseAnswered : Type 0
 PromiseAnswered =
     (m : Membership) (w : Trace) (k : MessageNo) (p : ServerId) (i : Inst) (q : ServerId) (b : BallotNo)
@@ -73,13 +80,14 @@ PromiseAnswered =
     → slice_get (sent_messages w) k ≡ Some (Promise q p i b o)
     → 0 < b → promise_answer (slot_at m w p i) q b o ≡ due_proposal_at m w (Heard k p ∷ w) p i b
 
--- a promise of any other ballot calls for nothing
+-- a promise of a ballot that p does not try calls for no proposal
 abbrev pub IgnoresPromises : Type 0
 IgnoresPromises =
     (m : Membership) (w : Trace) (p : ServerId) (i : Inst) (q : ServerId) (b : BallotNo) (o : Option Vote)
     → b ≢ tried_ballot w p i → promise_answer (slot_at m w p i) q b o ≡ None
 
--- p hears a promise, and proposes if that is due
+-- after p hears a promise of a ballot above 0 and proposes the value that is due, if any, its slot is the one that
+-- `add_promise` leaves
 abbrev pub SlotAfterPromise : Type 0
 SlotAfterPromise =
     (m : Membership) (w : Trace) (k : MessageNo) (p : ServerId) (i : Inst) (q : ServerId) (b : BallotNo)
@@ -91,20 +99,22 @@ SlotAfterPromise =
 
 -- ---- add_accept
 
--- an acceptance is answered by the value that is decided, from all acceptances heard, this one among them
+-- when p hears an acceptance, `add_accept` returns the value that all acceptances heard decide, including this one. If
+-- the acceptance is at ballot 0, p must own the instance
 abbrev pub AcceptanceAnswered : Type 0
 AcceptanceAnswered =
     (m : Membership) (w : Trace) (k : MessageNo) (p : ServerId) (i : Inst) (q : ServerId) (b : BallotNo)
     → slice_get (sent_messages w) k ≡ Some (Accepted q p i b)
     → (b ≡ 0 → owner m i ≡ p) → acceptance_answer (slot_at m w p i) q b ≡ due_decision_at m w (Heard k p ∷ w) p i b
 
--- an acceptance at any other ballot calls for nothing
+-- an acceptance at a ballot that p does not try decides nothing
 abbrev pub IgnoresAcceptances : Type 0
 IgnoresAcceptances =
     (m : Membership) (w : Trace) (p : ServerId) (i : Inst) (q : ServerId) (b : BallotNo) → b ≢ tried_ballot w p i
     → acceptance_answer (slot_at m w p i) q b ≡ None
 
--- p hears an acceptance, and learns if that is due
+-- after p hears an acceptance and learns the value that is decided, if any, its slot is the one that `add_accept`
+-- leaves
 abbrev pub SlotAfterAcceptance : Type 0
 SlotAfterAcceptance =
     (m : Membership) (w : Trace) (k : MessageNo) (p : ServerId) (i : Inst) (q : ServerId) (b : BallotNo)
@@ -114,7 +124,7 @@ SlotAfterAcceptance =
 
 -- ---- learn
 
--- the first value that p learns stays
+-- after p learns a value, the slot is the one that `learn` leaves
 abbrev pub SlotAfterLearn : Type 0
 SlotAfterLearn =
     (m : Membership) (w : Trace) (p : ServerId) (i : Inst) (z : Value)
@@ -135,18 +145,20 @@ is_touched_by p i (Learned server inst value) = server == p && inst == i
 is_touched_by p i (Heard message server) = server == p
 is_touched_by p i _ = false
 
+-- a line that does not touch p's slot for i leaves the slot unchanged
 abbrev pub LeavesUntouched : Type 0
 LeavesUntouched =
     (m : Membership) (w : Trace) (p : ServerId) (i : Inst) (l : Line) → is_touched_by p i l ≡ false
     → slot_at m (l ∷ w) p i ≡ slot_at m w p i
 
--- whether a message counts in a set at ballot b of i
+-- whether a message is a promise of ballot b of i or an acceptance at it. Only these messages count in a slot's sets
 abbrev pub is_counted_at : Inst → BallotNo → Message → Bool
 is_counted_at i b (Promise from to inst ballot reported) = inst == i && ballot == b
 is_counted_at i b (Accepted from to inst ballot) = inst == i && ballot == b
 is_counted_at i b _ = false
 
--- p hears a message that is no promise and no acceptance of the ballot that it tries
+-- a message that p hears leaves the slot unchanged, unless it is a promise of the ballot that p tries or an acceptance
+-- at it
 abbrev pub LeavesUncounted : Type 0
 LeavesUncounted =
     (m : Membership) (w : Trace) (k : MessageNo) (p : ServerId) (i : Inst) (x : Message)
@@ -154,14 +166,14 @@ LeavesUncounted =
     → is_counted_at i (tried_ballot w p i) x ≡ false
     → slot_at m (Heard k p ∷ w) p i ≡ slot_at m w p i
 
--- a proposal at a ballot that p does not try
+-- a Propose at a ballot that p does not try leaves the slot unchanged
 abbrev pub LeavesProposals : Type 0
 LeavesProposals =
     (m : Membership) (w : Trace) (p q : ServerId) (i : Inst) (b : BallotNo) (z : Value) → IsVoted w p i
     → b ≢ tried_ballot w p i
     → slot_at m (Sent (Propose q i b z) ∷ w) p i ≡ slot_at m w p i
 
--- a suggestion at an instance that p does not own
+-- a Suggest at an instance that p does not own leaves the slot unchanged
 abbrev pub LeavesSuggestions : Type 0
 LeavesSuggestions =
     (m : Membership) (w : Trace) (p q : ServerId) (i : Inst) (t : TicketNo) → IsVoted w p i → owner m i ≢ p
@@ -169,7 +181,7 @@ LeavesSuggestions =
 
 -- ---- repeats
 
--- a message that p heard before changes nothing when it comes again
+-- a message that p heard before leaves the slot unchanged when p hears it again
 abbrev pub LeavesRepeats : Type 0
 LeavesRepeats =
     (m : Membership) (w : Trace) (k : MessageNo) (p : ServerId) (i : Inst) (x : Message)

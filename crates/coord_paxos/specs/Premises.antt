@@ -1,4 +1,4 @@
--- What the laws of a slot ask of the trace holds in every trace that some journal makes.
+-- Every trace that some journal makes meets the conditions that the laws of a slot set for a trace.
 use Rattle.std.specs.Prelude.{◌≡◌, ◌<◌, false, ◌∷◌, Option, Some, None, slice_get}
 use Rattle.mencius_base.specs.Numbers.{ServerId, Inst, BallotNo, TicketNo, MessageNo}
 use Rattle.mencius_base.specs.declared.message.Message.TheVariants.{Suggest, Accepted, Promise, Propose}
@@ -12,18 +12,18 @@ use Rattle.mencius_model.specs.Server.{free_instance}
 use Rattle.mencius_model.specs.Next.{IsReached, next_round}
 use Rattle.coord_paxos.specs.Laws.{is_touched_by}
 
--- each value that a server accepted had been proposed
+-- a value had been proposed at the greatest ballot that a server accepted at an instance
 abbrev pub AcceptedWasProposed : Type 0
 AcceptedWasProposed = (m : Membership) (w : Trace) → IsReached m w → (p : ServerId) (i : Inst) → IsVoted w p i
 
--- the free instance that takes a server's next ticket is the server's own; the server tries no ballot there, and nobody
--- has suggested a ticket there
+-- the free instance that takes a server's next ticket is the server's own. The server tries no ballot above 0 there,
+-- and nobody has suggested a ticket there
 abbrev pub FreeIsUnsaid : Type 0
 FreeIsUnsaid =
     (m : Membership) (w : Trace) → IsReached m w → (p : ServerId) (i : Inst) → free_instance m w p ≡ Some i
     → (owner m i ≡ p) × (tried_ballot w p i ≡ 0) × (proposal w i 0 ≡ None)
 
--- the ballot that a suspicion prepares at an instance is greater than each ballot that the server tried there; nothing
+-- the ballot that a suspicion prepares at an instance is greater than each ballot that the server tried there. Nothing
 -- is proposed at it, and the server heard no promise of it and no acceptance at it
 abbrev pub NextIsUntried : Type 0
 NextIsUntried =
@@ -36,7 +36,7 @@ SuggestIsProposal =
     (m : Membership) (w : Trace) → IsReached m w → (k : MessageNo) (q : ServerId) (i : Inst) (t : TicketNo)
     → slice_get (sent_messages w) k ≡ Some (Suggest q i t) → proposal w i 0 ≡ Some (Ticket t)
 
--- a Propose that was sent carries the proposal at its ballot
+-- a Propose that was sent carries the proposal at its instance and ballot
 abbrev pub ProposeIsProposal : Type 0
 ProposeIsProposal =
     (m : Membership) (w : Trace) → IsReached m w → (k : MessageNo) (q : ServerId) (i : Inst) (b : BallotNo) (z : Value)
@@ -49,14 +49,14 @@ PromiseIsPositive =
     → (k : MessageNo) (q p : ServerId) (i : Inst) (b : BallotNo) (o : Option Vote)
     → slice_get (sent_messages w) k ≡ Some (Promise q p i b o) → 0 < b
 
--- an Accepted at ballot 0 that was sent goes to the owner of the instance
+-- an Accepted at ballot 0 that was sent goes to the owner of its instance
 abbrev pub AcceptedGoesToOwner : Type 0
 AcceptedGoesToOwner =
     (m : Membership) (w : Trace) → IsReached m w → (k : MessageNo) (q p : ServerId) (i : Inst)
     → slice_get (sent_messages w) k ≡ Some (Accepted q p i 0) → owner m i ≡ p
 
--- a line that does not touch p's slot for i leaves the ballot that p tries there and the proposals there as they are, and
--- keeps IsVoted and IsUntried; so these also hold between the lines of an event
+-- a line that does not touch p's slot for i keeps `IsVoted` and `IsUntried` there. It leaves the ballot that p tries at
+-- i and all proposals at i unchanged
 abbrev pub UntouchedLeavesPremises : Type 0
 UntouchedLeavesPremises =
     (w : Trace) (p : ServerId) (i : Inst) (l : Line) → is_touched_by p i l ≡ false

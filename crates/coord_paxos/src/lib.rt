@@ -1,10 +1,11 @@
-//! One server's part in one instance of Coordinated Paxos: consensus where one server, the
-//! instance's owner, may propose a command without asking first, and every other server may only
-//! propose no-op, or what an earlier ballot may have chosen already (Mao, Junqueira and Marzullo,
-//! "Mencius", OSDI 2008, section 4).
+//! One server's part in one instance of Coordinated Paxos.
 //!
-//! A [`Slot`] sends nothing and hears nothing. Its caller hands in what a message says and sends
-//! what the answer calls for. No call takes memory, and no call fails.
+//! Coordinated Paxos is consensus in which the instance's owner may propose a command without asking first. Every other
+//! server may only propose no-op, or a value that an earlier ballot may have chosen already. `docs/MODEL.md` names the
+//! source of these rules.
+//!
+//! A [`Slot`] sends nothing and hears nothing. Its caller passes in the content of each message, and sends the messages
+//! that the returned value calls for. No call allocates memory, and no call fails.
 #![tactic(auto)]
 
 ghost use Rattle.std.specs.Prelude.{◌≡◌, ◌<◌, ◌≤◌, ◌==◌, Some, None, is_none, length, nat_le, slice_set, take, true};
@@ -21,16 +22,19 @@ use std::marker::Model;
 
 pub mod laws;
 
-// One truth value for each of the at most seven servers; places past the last server stay false.
+// One truth value for each of the at most seven servers. Places after the last server stay false.
 type ServerSet = [bool; MOST_SERVERS as usize];
 
-/// What one server knows of one instance, as acceptor, as proposer and as learner.
+/// The knowledge of one server about one instance, as acceptor, proposer and learner.
 ///
-/// As acceptor: the greatest ballot that it promised or accepted, and its vote, which is what it
-/// accepted last. As proposer: the greatest ballot that it tries, and for that ballot alone the
-/// greatest vote reported to it, the value that it proposed, and who promised and who accepted. As
-/// learner: the value that it learned. It belongs to one server and one instance, and keeps the
-/// number of neither.
+/// - As acceptor, it stores the greatest ballot that it promised or accepted. It also stores its vote, which is the
+///   value that it accepted last, with its ballot.
+/// - As proposer, it stores the greatest ballot that it tries. For that ballot alone, it stores the greatest vote
+///   reported to it and the value that it proposed. It also stores the servers whose promises and whose acceptances it
+///   heard.
+/// - As learner, it stores the value that it learned.
+///
+/// A slot belongs to one server and one instance, and stores the number of neither.
 #[derive(Debug, Drop)]
 pub struct Slot {
     members: Members,
@@ -64,8 +68,8 @@ impl Model for Slot {
 }
 
 impl Slot {
-    /// The slot of an instance of which nothing was heard: nothing is promised, accepted, tried or
-    /// learned, and both sets are empty.
+    /// Returns the slot of an instance about which the server has heard nothing. Nothing is promised, accepted, tried
+    /// or learned, and both sets are empty.
     pub fn new(members: Members) -> Slot
         ensures { result ≡ new_slot members }
     {
@@ -83,7 +87,8 @@ impl Slot {
         }
     }
 
-    /// The slot of an instance of which only the value was heard: a new one that learned it.
+    /// Returns the slot of an instance about which the server has heard only the value. It is a new slot that has
+    /// learned `value`.
     pub fn known(members: Members, value: Value) -> Slot
         ensures { result ≡ after_learn (new_slot members) value }
     {
@@ -92,35 +97,35 @@ impl Slot {
         slot
     }
 
-    /// The servers of the cluster, as [`Slot::new`] got them.
+    /// Returns the servers of the cluster, as passed to [`Slot::new`].
     pub fn members(&self) -> Members
         ensures { result ≡ self.now.members }
     {
         self.members
     }
 
-    /// The greatest ballot promised or accepted here, `Ballot::OWNER` at the start. It only grows.
+    /// Returns the greatest ballot promised or accepted here, or `Ballot::OWNER` at the start. It never decreases.
     pub fn promised(&self) -> Ballot
         ensures { result ≡ self.now.promised }
     {
         self.promised
     }
 
-    /// What was accepted here last, with its ballot: what a promise reports.
+    /// Returns the value that was accepted here last, with its ballot. A promise reports this vote.
     pub fn vote(&self) -> Option<Vote>
         ensures { result ≡ self.now.vote }
     {
         self.vote
     }
 
-    /// The value that the instance decided, once it is known here. It never changes again.
+    /// Returns the value that the instance decided, once it is known here. It never changes again.
     pub fn learned(&self) -> Option<Value>
         ensures { result ≡ self.now.learned }
     {
         self.learned
     }
 
-    /// The greatest ballot that this server tries here, `Ballot::OWNER` until it starts a first
+    /// Returns the greatest ballot that this server tries here. It is `Ballot::OWNER` until the server starts a first
     /// phase. Promises and acceptances count at this ballot alone.
     pub fn trying(&self) -> Ballot
         ensures { result ≡ self.now.trying }
@@ -128,14 +133,15 @@ impl Slot {
         self.trying
     }
 
-    /// What this server itself proposed at the ballot that it tries.
+    /// Returns the value that this server itself proposed at the ballot that it tries.
     pub fn proposal(&self) -> Option<Value>
         ensures { result ≡ self.now.proposal }
     {
         self.proposal
     }
 
-    /// Of whose promises of the ballot tried this server heard: one truth value for each server.
+    /// Returns one truth value for each server. It is true if this server heard that server's promise of the ballot
+    /// tried.
     pub fn promises(&self) -> &[bool]
         ensures value { result.now ≡ self.now.promises }
         ensures count { length result.now ≡ self.now.members.count }
@@ -143,7 +149,8 @@ impl Slot {
         &self.promises[..self.members.count() as usize]
     }
 
-    /// Of whose acceptances at the ballot tried this server heard: one truth value for each server.
+    /// Returns one truth value for each server. It is true if this server heard that server's acceptance at the ballot
+    /// tried.
     pub fn accepts(&self) -> &[bool]
         ensures value { result.now ≡ self.now.accepts }
         ensures count { length result.now ≡ self.now.members.count }
@@ -151,8 +158,8 @@ impl Slot {
         &self.accepts[..self.members.count() as usize]
     }
 
-    /// Notes the owner's own proposal at ballot 0, which needs no first phase. Only the instance's
-    /// owner calls it, at most once, and never after `begin`.
+    /// Records the owner's own proposal of `ticket` at ballot 0, which needs no first phase. Only the instance's owner
+    /// calls this, at most once, and never after `begin`.
     pub fn suggest(&mut self, ticket: u32)
         requires unsaid { self.old.proposal ≡ None }
         requires own { self.old.trying ≡ 0 }
@@ -161,8 +168,11 @@ impl Slot {
         self.proposal = Some(Value::Ticket(ticket));
     }
 
-    /// Answers a Prepare. A ballot above every one promised or accepted here is promised, unless
-    /// the value is known already; a ballot is never promised twice.
+    /// Processes a Prepare and returns the reply to it.
+    ///
+    /// If a value is learned here, the reply is that value. Otherwise, a ballot above every ballot promised or accepted
+    /// here is promised, and the reply reports the vote. Any other ballot gets no reply, so a ballot is never promised
+    /// twice.
     pub fn prepare(&mut self, ballot: Ballot) -> Answer
         ensures answer { result ≡ prepare_answer self.old ballot }
         ensures after { self.new ≡ after_prepare self.old ballot }
@@ -174,7 +184,7 @@ impl Slot {
         answer
     }
 
-    /// What [`Slot::prepare`] would answer: nothing changes.
+    /// Returns the reply that [`Slot::prepare`] would return. It changes nothing.
     pub fn prepare_answer(&self, ballot: Ballot) -> Answer
         ensures { result ≡ prepare_answer self.now ballot }
     {
@@ -187,8 +197,8 @@ impl Slot {
         Answer::Promise(self.vote)
     }
 
-    /// Accepts a proposal, unless its ballot is below the one promised: whether it did. The same
-    /// proposal is accepted again as often as it comes, also where a value is learned.
+    /// Accepts a proposal, unless its ballot is below the promised one. Returns whether it accepted the proposal. It
+    /// accepts the same proposal again each time that it comes, even if a value is learned.
     pub fn accept(&mut self, ballot: Ballot, value: Value) -> bool
         ensures answer { result ≡ nat_le self.old.promised ballot }
         ensures after { self.new ≡ after_accept self.old ballot value }
@@ -201,8 +211,8 @@ impl Slot {
         true
     }
 
-    /// Starts the first phase of a ballot above all that were tried here. What was reported,
-    /// proposed and counted for the ballot before is forgotten.
+    /// Starts the first phase of a ballot above all ballots that were tried here. The slot forgets the reports, the
+    /// proposal and the counts of the previous ballot.
     pub fn begin(&mut self, ballot: Ballot)
         requires { self.old.trying < ballot }
         ensures { self.new ≡ after_begin self.old ballot }
@@ -215,7 +225,7 @@ impl Slot {
         self.accepts = [false; MOST_SERVERS as usize];
     }
 
-    /// Learns the instance's value where none was learned: whether it did. The first value stays.
+    /// Learns the instance's value if none was learned before. Returns whether it did so. The first value stays.
     pub fn learn(&mut self, value: Value) -> bool
         ensures answer { result ≡ is_none self.old.learned }
         ensures after { self.new ≡ after_learn self.old value }
@@ -227,10 +237,12 @@ impl Slot {
         true
     }
 
-    /// Counts a server's promise and the vote that it reports, if it is of the ballot tried; any
-    /// other promise is ignored. Gives the value to propose once a majority of servers promised:
-    /// that of the greatest ballot reported, the first of equal ones, and no-op where no vote was
-    /// reported. It gives one at most once a ballot, and none where a value is learned.
+    /// Counts a server's promise and the vote that it reports, if it is a promise of the ballot tried. Any other
+    /// promise is ignored.
+    ///
+    /// Returns the value to propose once a majority of servers has promised. It is the value of the greatest vote
+    /// reported, or no-op if no vote was reported. Of votes with equal ballots, the first counts. A value is returned
+    /// at most once for each ballot, and never if a value is learned.
     pub fn add_promise(&mut self, from: u8, ballot: Ballot, vote: Option<Vote>) -> Option<Value>
         requires tried { 0 < ballot }
         requires member { from < self.old.members.count }
@@ -249,7 +261,7 @@ impl Slot {
         value
     }
 
-    /// What [`Slot::add_promise`] would give: nothing changes.
+    /// Returns the value that [`Slot::add_promise`] would return. It changes nothing.
     pub fn promise_answer(&self, from: u8, ballot: Ballot, vote: Option<Vote>) -> Option<Value>
         requires { from < self.now.members.count }
         ensures { result ≡ promise_answer self.now from ballot vote }
@@ -261,9 +273,10 @@ impl Slot {
         self.due_proposal(majority, higher(self.reported, vote))
     }
 
-    /// Counts a server's acceptance, if it is at the ballot tried; any other is ignored. Gives the
-    /// value that is thereby learned, once a majority of servers accepted: what this server
-    /// proposed at that ballot. It gives one at most once, and none where a value is learned.
+    /// Counts a server's acceptance, if it is at the ballot tried. Any other acceptance is ignored.
+    ///
+    /// Once a majority of servers has accepted, the slot learns the value that this server proposed at that ballot, and
+    /// returns it. A value is returned at most once, and never if a value was learned before.
     pub fn add_accept(&mut self, from: u8, ballot: Ballot) -> Option<Value>
         requires { from < self.old.members.count }
         ensures answer { result ≡ acceptance_answer self.old from ballot }
@@ -279,7 +292,7 @@ impl Slot {
         value
     }
 
-    /// What [`Slot::add_accept`] would give: nothing changes.
+    /// Returns the value that [`Slot::add_accept`] would return. It changes nothing.
     pub fn acceptance_answer(&self, from: u8, ballot: Ballot) -> Option<Value>
         requires { from < self.now.members.count }
         ensures { result ≡ acceptance_answer self.now from ballot }
@@ -293,7 +306,8 @@ impl Slot {
         self.proposal
     }
 
-    // The value to propose once a majority promised, with the greatest vote that it reported.
+    // Returns the value to propose if `majority` says that a majority has promised. `reported` is the greatest vote
+    // that it reported.
     fn due_proposal(&self, majority: bool, reported: Option<Vote>) -> Option<Value>
         ensures { result ≡ due_proposal_from self.now.learned self.now.proposal majority reported }
     {
@@ -321,7 +335,7 @@ impl Slot {
     }
 }
 
-// The vote of the greater ballot, and of two equal ones the first.
+// Returns the vote with the greater ballot. If the ballots are equal, it returns the first vote.
 fn higher(first: Option<Vote>, second: Option<Vote>) -> Option<Vote>
     ensures { result ≡ higher_vote first second }
 {
@@ -338,7 +352,7 @@ fn higher(first: Option<Vote>, second: Option<Vote>) -> Option<Vote>
     }
 }
 
-// The value of a vote, or no-op.
+// Returns the value of a vote, or no-op if there is no vote.
 fn value_or_noop(vote: Option<Vote>) -> Value
     ensures { result ≡ option_map_or (λ x. x.value) vote Noop }
 {
@@ -348,7 +362,7 @@ fn value_or_noop(vote: Option<Vote>) -> Value
     }
 }
 
-// More than half of the servers are in the set, with one more.
+// Returns whether more than half of the servers are in the set after server `from` is added to it.
 fn has_majority_with(members: Members, among: ServerSet, from: u8) -> bool
     requires { from < members.count }
     ensures { result ≡ has_majority members (slice_set (take members.count among) from true) }
@@ -359,7 +373,7 @@ fn has_majority_with(members: Members, among: ServerSet, from: u8) -> bool
     has_majority(members, &among[..count])
 }
 
-// More than half of the servers are in the set.
+// Returns whether more than half of the servers are in the set.
 fn has_majority(members: Members, among: &[bool]) -> bool
     ensures { result ≡ has_majority members among.now }
 {

@@ -1,12 +1,12 @@
-//! The program `mencius`: it reads its command line, does what that asks for over standard input
-//! and output, and ends with a status that says how it went.
+//! The program `mencius`. It reads its command line and does the requested task with standard input and standard
+//! output. Its exit status says how the call ended.
 #![tactic(auto)]
 
 use mencius_app::{Ending, Failure, Std, arguments_of, end, perform};
 use std::alloc::Global;
 use std::process::ExitCode;
 
-// The bytes of the longest scenario.
+// The greatest length of a scenario, in bytes.
 const MOST_BYTES: usize = 16_777_216;
 
 fn main(rt: HostRuntime) -> ExitCode {
@@ -25,11 +25,11 @@ fn main(rt: HostRuntime) -> ExitCode {
     ExitCode::from(end(ending, &mut errors))
 }
 
-// Lets the heap keep the pages of large blocks that are freed. The C library's gives them back to the
-// system, until a block as large as this was freed once; what a cluster keeps would then be put on new
-// pages, which cost more than all else about it. The block itself is never touched, and where it is
-// refused only those pages are lost: nothing needs such a block. It is asked for here, since a heap that
-// the program shares with others is not its own to set.
+// Lets the heap keep the pages of large blocks that are freed. The heap of the C library returns such pages to the
+// system until the program has freed a block as large as this one. A cluster would then put its data on new pages,
+// which cost more than all other work on the data. Nothing ever touches the block itself. If the allocation fails, only
+// this saving is lost, because nothing needs the block. The allocation is in the program itself, because the settings
+// of a heap that is shared with other programs are not ours to change.
 fn keep_freed_pages(alloc: Global) {
     let _block = Vec::<u8>::with_capacity(alloc, MOST_BYTES);
 }

@@ -1,4 +1,4 @@
--- What is read of an input, and how a call ends.
+-- Facts about reading an input and about the end of a call.
 pub mod Inputs
 pub mod TaskEnds
 pub mod ArgumentAnswers

@@ -1,4 +1,4 @@
--- What tasks write.
+-- Facts about the texts that tasks write.
 pub mod RefusedLines
 pub mod TraceTexts
 pub mod SentAcceptances

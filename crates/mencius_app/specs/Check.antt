@@ -1,4 +1,4 @@
--- What a check takes, and the line that it prints.
+-- The scenarios that a check accepts, and the line that it prints.
 use Rattle.std.specs.Prelude.{ℕ, ◌≡◌, true, List, ◌∷◌, ◌++◌, codes, decimal, length, Option, Result, Ok, Err}
 use Rattle.std.specs.List.{flat_map}
 use Rattle.mencius_base.specs.CommandState.{CommandState}
@@ -19,50 +19,55 @@ pub data EitherScenario : Type 0 where
   replay_scenario : (written : Scenario (List Event)) → EitherScenario
   run_scenario : (written : Scenario PlanState) → EitherScenario
 
+-- the result of reading a scenario of `replay`, as a result for either kind
 abbrev pub as_replay : Result (Scenario (List Event)) IoFault → Result EitherScenario IoFault
 as_replay (Ok written) = Ok (replay_scenario written)
 as_replay (Err fault) = Err fault
 
+-- the result of reading a scenario of `run`, as a result for either kind
 abbrev pub as_run : Result (Scenario PlanState) IoFault → Result EitherScenario IoFault
 as_run (Ok written) = Ok (run_scenario written)
 as_run (Err fault) = Err fault
 
--- what bytes say as a scenario of this kind
+-- the result of reading bytes as a scenario of this kind
 abbrev pub scenario_of_kind : Kind → List ℕ → Result EitherScenario IoFault
 scenario_of_kind kind.Replay bytes = as_replay (scenario bytes)
 scenario_of_kind kind.Run bytes = as_run (plan bytes)
 
--- of the kind that they are meant as
+-- the result of reading bytes as a scenario of the kind that they are meant as
 abbrev pub either_scenario : List ℕ → Result EitherScenario IoFault
 either_scenario bytes = scenario_of_kind (kind_in bytes) bytes
 
 -- ---- the line
 
--- how many servers and how many events
+-- the line for a scenario of `replay`, with the numbers of servers and events
 abbrev pub replay_line : Scenario (List Event) → List ℕ
 replay_line x = codes "ok servers " ++ decimal x.members.count ++ codes " events " ++ decimal (length x.course) ++ codes "\n"
 
+-- a space and the number of commands in a list
 abbrev pub count_text : List CommandState → List ℕ
 count_text commands = 32 ∷ decimal (length commands)
 
--- how many servers, workers and turns, and how many commands in each list
+-- the line for a scenario of `run`, with the numbers of servers, workers and turns, and of commands in each list
 abbrev pub run_line : Scenario PlanState → List ℕ
 run_line x =
     codes "ok servers " ++ decimal x.members.count ++ codes " workers " ++ decimal x.course.workers
     ++ codes " turns " ++ decimal x.course.turns ++ codes " commands" ++ flat_map count_text x.course.commands ++ codes "\n"
 
+-- the line for a scenario of either kind
 abbrev pub ok_line : EitherScenario → List ℕ
 ok_line (replay_scenario written) = replay_line written
 ok_line (run_scenario written) = run_line written
 
 -- ---- the whole
 
--- the line of the scenario that is all that a reader has, if that is known
+-- the text is the line of a scenario. If the reader's bytes are known, they are this scenario
 pub record IsCheckOf (known : Option (List ℕ)) (text : List ℕ) : Type 0 where
   pub written : EitherScenario
   pub says : Says (unless_long either_scenario) known written
   pub is : text ≡ ok_line written
 
+-- the task of checking, whose text is always clean
 abbrev pub check_task : Task
 check_task = record {
   IsText = λ known text is_clean. IsCheckOf known text × (is_clean ≡ true);

@@ -1,4 +1,4 @@
--- The picture of a scenario, which input it is of, and when it is refused.
+-- The picture of a scenario, the input that it belongs to, and the limit on its size.
 use Rattle.std.specs.Prelude.{◌≡◌, ◌⊎◌, ◌<◌, ◌≤◌, ℕ, true, List, ◌++◌, Option, Some, None, codes, decimal, IfSome, string_bytes}
 use Rattle.mencius_io.specs.declared.failure.Failure.{Failure}
 use Rattle.mencius_io.specs.declared.fault.IoFault.{IoFault}
@@ -14,21 +14,23 @@ use Rattle.mencius_input.specs.Scenario.{scenario}
 use Rattle.mencius_app.specs.Input.{HasFault, unless_long}
 use Rattle.mencius_app.specs.Trace.{IsTraceOf}
 
--- the levels that a part of a trace takes
+-- the number of levels in a picture of the part of a trace that the options name
 abbrev pub levels_in : Options → List ℕ → ℕ
 levels_in options trace = levels_of options (lines_of trace)
 
--- the picture of the trace of all that a reader has, so far as that is known
+-- the text is the picture of the trace of a scenario, and has at most `most_levels` levels. If the reader's bytes are
+-- known, they are this scenario
 abbrev pub IsPictureOf : Options → Option (List ℕ) → List ℕ → Type 0
 IsPictureOf options known text =
     (trace : List ℕ) × IsTraceOf known trace × (levels_in options trace ≤ most_levels) × (text ≡ picture_of options trace)
 
--- the trace of that takes so many levels, and a picture has fewer
+-- the picture of the trace of a scenario has this number of levels, which is above `most_levels`. If the reader's bytes
+-- are known, they are this scenario
 abbrev pub IsTooLarge : Options → Option (List ℕ) → ℕ → Type 0
 IsTooLarge options known levels =
     (trace : List ℕ) × IsTraceOf known trace × (levels ≡ levels_in options trace) × (most_levels < levels)
 
--- an input that no trace is of, or whose picture is too large
+-- the task of drawing. Its input is bad if it is not a scenario of `replay`, or if the picture would be too large
 abbrev pub draw_task : Options → Task
 draw_task options = record {
   IsText = λ known text is_clean. IsPictureOf options known text × (is_clean ≡ true);
@@ -36,19 +38,20 @@ draw_task options = record {
       ⊎ ((fault ≡ BadLimit) × (levels : ℕ) × IsTooLarge options known levels);
 }
 
+-- the words for a picture that would have this number of levels, which is too great
 abbrev pub too_large_words : ℕ → List ℕ
 too_large_words levels =
     codes "the picture takes " ++ decimal levels
     ++ codes " levels and has at most " ++ decimal most_levels
     ++ codes ": ask for fewer events by `--from` and `--to`"
 
--- a picture's fault is explained as that of a trace, or it says how many levels are too many
+-- the words explain a fault as they do for a trace, or they name the number of levels of a picture that is too large
 abbrev pub ExplainsPicture : Options → IoFault → List ℕ → List ℕ → Type 0
 ExplainsPicture options fault bytes words =
     ExplainsAs Replay fault bytes words
     ⊎ ((fault ≡ BadLimit) × (levels : ℕ) × IsTooLarge options (Some bytes) levels × (words ≡ too_large_words levels))
 
--- memory ran out, or a trace takes too many levels
+-- the failure means that memory ran out, or that the picture of the trace would be too large
 abbrev pub IsRefusedAs : Options → List ℕ → Failure → Type 0
 IsRefusedAs options trace failure =
     ((failure.fault ≡ NoMemory) × (failure.words ≡ None))

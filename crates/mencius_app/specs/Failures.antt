@@ -1,4 +1,4 @@
--- The words of a failure: which fault of which bytes they explain.
+-- The words of a failure, and the fault of the input that they explain.
 use Rattle.std.specs.Prelude.{ℕ, ◌≡◌, ◌⊎◌, ◌<◌, List, codes, length, Option, IfSome, Ok, string_bytes}
 use Rattle.mencius_io.specs.Streams.{StreamState, most_bytes}
 use Rattle.mencius_io.specs.declared.failure.Failure.{Failure}
@@ -15,37 +15,39 @@ use Rattle.mencius_input.specs.declared.scenario.Scenario.{Scenario}
 use Rattle.mencius_base.specs.declared.event.Event.{Event}
 use Rattle.mencius_base.specs.Plan.{PlanState}
 
--- ---- what may be said of a fault that bytes have
+-- ---- explanations of a fault
 
--- the words that may explain a fault of these bytes
+-- a rule for the words that may explain a fault of some bytes
 abbrev pub Explanation : Type 1
 Explanation = IoFault → List ℕ → List ℕ → Type 0
 
--- the bytes are not a scenario of this kind, but one of the other
+-- the bytes are a scenario of the other kind
 abbrev pub IsOtherKind : Kind → List ℕ → Type 0
 IsOtherKind Replay bytes = (written : Scenario PlanState) × (plan bytes ≡ Ok written)
 IsOtherKind Run bytes = (written : Scenario (List Event)) × (scenario bytes ≡ Ok written)
 
+-- the words of a task that accepts only this kind, for a scenario of the other kind
 abbrev pub other_kind_words : Kind → List ℕ
 other_kind_words Replay = codes "this is a scenario of a run: `mencius run` takes it"
 other_kind_words Run = codes "this is a scenario of events: `mencius replay` takes it"
 
--- a task that takes only this kind says where the fault is, or that the scenario is of the other kind
+-- the words of a task that accepts only this kind say where the fault is, or that the scenario is of the other kind
 abbrev pub ExplainsAs : Kind → Explanation
 ExplainsAs kind fault bytes words =
     Explains kind fault bytes words ⊎ (IsOtherKind kind bytes × (words ≡ other_kind_words kind))
 
--- a check takes both kinds, and goes by the fields
+-- the words of a check explain the fault for the kind of scenario that the bytes are meant as
 abbrev pub ExplainsByFields : Explanation
 ExplainsByFields fault bytes words = Explains (kind_in bytes) fault bytes words
 
--- every task says of too many bytes that they are too many
+-- the fault is `BadLimit` because there are more than `most_bytes` bytes, and the words say that the input is too long.
+-- Every task may fail in this way
 abbrev pub IsTooLong : Explanation
 IsTooLong fault bytes words = (fault ≡ BadLimit) × (most_bytes < length bytes) × (words ≡ too_long_words)
 
 -- ---- the words of a failure
 
--- the words explain the fault in all that a reader has, if that is known
+-- the words explain the fault in the reader's bytes, if these are known, by the rule `Tells` or as too many bytes
 abbrev pub ExplainsIn : Explanation → Option (List ℕ) → IoFault → List ℕ → Type 0
 ExplainsIn Tells known fault words = IfSome known (λ bytes. Tells fault bytes words ⊎ IsTooLong fault bytes words)
 
@@ -54,13 +56,13 @@ abbrev pub IsExplained : Explanation → Option (List ℕ) → Failure → Type 
 IsExplained Tells known failure =
     IfSome failure.words (λ words. ExplainsIn Tells known failure.fault (string_bytes words))
 
--- why a task made no text, and which words explain it
+-- the failure of a task that made no text has a cause, and its words explain the fault
 pub record FailsReading (IsBadInput : Option (List ℕ) → IoFault → Type 0) (Tells : Explanation) (old new : StreamState)
     (failure : Failure) : Type 0 where
   pub cause : IsReadingCause IsBadInput old new failure.fault
   pub words : IsExplained Tells old.bytes failure
 
--- why a task failed, and which words explain it
+-- the failure of a task has a cause, and its words explain the fault
 pub record Fails (t : Task) (Tells : Explanation) (s : Streams) (failure : Failure) : Type 0 where
   pub cause : IsCause t s failure.fault
   pub words : IsExplained Tells s.reader.bytes failure

@@ -1,4 +1,4 @@
--- The text of a report: every word is taken from the trace that a cluster's journal makes.
+-- The text of a report, which depends only on the membership and the trace of a cluster.
 use Rattle.std.specs.Prelude.{ℕ, List, ◌++◌, codes, decimal, length}
 use Rattle.std.specs.List.{flat_map}
 use Rattle.mencius_model.specs.Trace.{Trace, events, sent_messages, submitted_commands}
@@ -9,13 +9,14 @@ use Rattle.mencius_model.specs.Replying.{reply_of}
 use Rattle.mencius_model.specs.Executed.{history}
 use Rattle.mencius_trace.specs.Words.{answer_line, tickets_text}
 
--- a server's front, how many instances it has executed, and the commands that it executed in order
+-- the line of a server, with its front, the number of instances that it executed, and its history
 abbrev pub server_line : Membership → Trace → ServerId → List ℕ
 server_line m w p =
     codes "server " ++ decimal p ++ codes " front " ++ decimal (front m w p) ++ codes " done " ++ decimal (done w p)
     ++ codes " history" ++ tickets_text w (history w p) ++ codes "\n"
 
--- a line with the counts, then a line for each server, then a line for each command in the order of submission
+-- the report, with a line of counts, then a line for each server, and then a line for each command in the order of
+-- submission
 unfoldable pub report_text : Membership → Trace → List ℕ
 report_text m w =
     codes "servers " ++ decimal m.count ++ codes " messages " ++ decimal (length (sent_messages w)) ++ codes " events "

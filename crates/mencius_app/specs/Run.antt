@@ -1,4 +1,4 @@
--- The text of a run, and which input it is of.
+-- The text of a run, and the input that it belongs to.
 use Rattle.std.specs.Prelude.{◌≡◌, ℕ, Bool, true, if◌then◌else◌, Ok, List, [], ◌∷◌, ◌++◌, codes, Option, Some, None}
 use Rattle.mencius_model.specs.KeyMap.{value_at}
 use Rattle.mencius_model.specs.Next.{replay}
@@ -18,46 +18,48 @@ use Rattle.mencius_base.specs.Plan.{PlanState}
 
 -- ---- the text
 
--- the journal, as one line, where it is asked for
+-- the journal as one line, or no text if the journal is not requested
 abbrev pub journal_line : Bool → ClusterState → List ℕ
 journal_line is_asked x = if is_asked then journal_text x.members x.journal ++ codes "\n" else []
 
--- what the commands of the longest history leave at a key
+-- the text that the commands of the longest history leave at a key, if any
 abbrev pub text_at : ClusterState → List ℕ → Option (List ℕ)
 text_at x key = value_at key (longest_commands x.members (trace_of x))
 
+-- the line of a lookup, with its key and the text that was found there, if any
 abbrev pub held_line : List ℕ → Option (List ℕ) → List ℕ
 held_line key held = codes "lookup " ++ (key ++ 32 ∷ (former_text held ++ codes "\n"))
 
--- what was found at the key, where one was looked up
+-- the line for the text that was found at the key, or no text without a key
 abbrev pub found_line : Option (List ℕ) → Option (List ℕ) → List ℕ
 found_line None found = []
 found_line (Some key) found = held_line key found
 
--- what the map holds at the key, where one is looked up
+-- the line for the text that the longest history leaves at the key, or no text without a key
 abbrev pub lookup_line : Option (List ℕ) → ClusterState → List ℕ
 lookup_line None x = []
 lookup_line (Some key) x = held_line key (text_at x key)
 
--- what was seen of the servers, as a log, or the report
+-- the log of the observations in the trace if it is requested, and otherwise the report
 abbrev pub body_text : Bool → ClusterState → List ℕ
 body_text with_observations x =
     if with_observations then log_text (log_of (trace_of x)) else report_text x.members (trace_of x)
 
--- the journal's line, the log or the report, and the lookup
+-- the text of a run, with the line of the journal, then the log or the report, and then the line of the lookup
 abbrev pub run_text : Bool → Bool → Option (List ℕ) → ClusterState → List ℕ
 run_text with_journal with_observations key x =
     journal_line with_journal x ++ (body_text with_observations x ++ lookup_line key x)
 
--- what was found at the key, where one is looked up
+-- the text that was found at the key, if there is a key, is the text that the longest history leaves there
 abbrev pub IsFound : Option (List ℕ) → ClusterState → Option (List ℕ) → Type 0
 IsFound None x found = Unit {0}
 IsFound (Some key) x found = found ≡ text_at x key
 
 -- ---- the whole
 
--- a text of a run of the scenario that a reader has: that of the cluster to which all turns of the plan
--- came, whose journal replays, and whose journal's line says it again
+-- the text belongs to a run of a scenario. If the reader's bytes are known, they are this scenario. The text describes
+-- a cluster after all turns of the plan. The journal of this cluster replays, and the line of the journal, if
+-- requested, reads back as the journal
 pub record IsRunOf (known : Option (List ℕ)) (with_journal with_observations : Bool) (key : Option (List ℕ))
     (text : List ℕ) : Type 0 where
   pub written : Scenario PlanState
@@ -68,7 +70,7 @@ pub record IsRunOf (known : Option (List ℕ)) (with_journal with_observations :
   pub run : text ≡ run_text with_journal with_observations key cluster
   pub reads_back : with_journal ≡ true → ReadsBack cluster
 
--- a run with these options
+-- the task of a run with these options, whose text is always clean
 abbrev pub run_task : Bool → Bool → Option (List ℕ) → Task
 run_task with_journal with_observations key = record {
   IsText = λ known text is_clean. IsRunOf known with_journal with_observations key text × (is_clean ≡ true);

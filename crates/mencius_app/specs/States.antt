@@ -1,4 +1,4 @@
--- The text of a state: what each server of a cluster knows of each instance that it heard of.
+-- The text of a state, with the knowledge of each server about each instance.
 use Rattle.std.specs.Prelude.{◌≡◌, ◌<◌, ℕ, Bool, List, [], ◌++◌, ◌||◌, codes, decimal, if◌then◌else◌, is_some, nat_lt, Option, Some, None, slice_index_or}
 use Rattle.std.specs.List.{enumerate_from, flat_map, range_with_len}
 use Rattle.mencius_base.specs.Limits.{instance_count}
@@ -18,58 +18,64 @@ use Rattle.mencius_app.specs.Tasks.{Task}
 use Rattle.mencius_app.specs.Trace.{text_task}
 use Rattle.mencius_app.specs.Report.{server_line}
 
--- for each instance the greatest ballot that p accepted there
+-- the list contains for each instance the greatest ballot that p accepted there, if it accepted any
 abbrev pub AreAccepted : Trace → ServerId → List (Option BallotNo) → Type 0
 AreAccepted w p ballots = (i : ℕ) → i < instance_count → slice_index_or ballots i None ≡ accepted_ballot w p i
 
--- whether anything was heard or done at an instance of which this is known
+-- whether a server with this glance and this vote heard or did anything at the instance
 abbrev pub is_heard_of : Glance → Option Vote → Bool
 is_heard_of g x = nat_lt 0 g.promised || is_some x || nat_lt 0 g.trying || is_some g.proposal || is_some g.learned
 
+-- the text of a value, or `none` without a value
 abbrev pub value_or_none : Trace → Option Value → List ℕ
 value_or_none w None = codes "none"
 value_or_none w (Some x) = value_text w x
 
--- as acceptor
+-- the knowledge of an acceptor, with the ballot that it promised, and its vote
 abbrev pub acceptor_text : Trace → BallotNo → Option Vote → List ℕ
 acceptor_text w promised x = codes " promised " ++ decimal promised ++ vote_text w x
 
--- as proposer, at the ballot that is tried
+-- the knowledge of a proposer, with the ballot that it tries, and its proposal and the counts of promises and
+-- acceptances at that ballot
 abbrev pub proposer_text : Trace → Glance → List ℕ
 proposer_text w g =
     codes " tries " ++ decimal g.trying ++ codes " promises " ++ decimal g.promise_count ++ codes " proposed "
     ++ value_or_none w g.proposal ++ codes " acceptances " ++ decimal g.acceptance_count
 
--- as learner
+-- the knowledge of a learner, with the value that it learned, if any
 abbrev pub learner_text : Trace → Option Value → List ℕ
 learner_text w learned = codes " learned " ++ value_or_none w learned
 
+-- the knowledge of a server about an instance, as acceptor, as proposer and as learner
 abbrev pub slot_text : Trace → Glance → Option Vote → List ℕ
 slot_text w g x = acceptor_text w g.promised x ++ proposer_text w g ++ learner_text w g.learned
 
+-- the line of p for instance i with this glance and this vote, or no text if they contain no knowledge
 abbrev pub slot_line : Trace → ServerId → Inst → Glance → Option Vote → List ℕ
 slot_line w p i g x =
     if is_heard_of g x then codes "slot " ++ decimal p ++ at_instance i ++ slot_text w g x ++ codes "\n" else []
 
--- what p knows of instance i, if it heard of it
+-- the line of p for instance i, or no text if p knows nothing about the instance
 abbrev pub slot_line_at : Membership → Trace → ServerId → Inst → List ℕ
 slot_line_at m w p i = slot_line w p i (glance m w p i) (vote w p i)
 
--- the same of the instances below n
+-- the lines of p for the instances below n that it knows anything about
 unfoldable pub slot_lines : Membership → Trace → ServerId → ℕ → List ℕ
 slot_lines m w p n = flat_map (slot_line_at m w p) (range_with_len 0 n)
 
--- a server's line of the report, and then what it knows of all instances
+-- the line of p in the report, and then the lines of p for all instances that it knows anything about
 abbrev pub server_state : Membership → Trace → ServerId → List ℕ
 server_state m w p = server_line m w p ++ slot_lines m w p instance_count
 
+-- the states of all servers, in the order of their numbers
 abbrev pub server_states : Membership → Trace → List ℕ
 server_states m w = flat_map (server_state m w) (numbers_below m.count)
 
--- a line for each refused event, and then the state of each server after all events
+-- the text of a state, with a line for each refused event, and then the state of each server after all events
 abbrev pub state_text : Membership → List Event → List ℕ
 state_text m es =
     flat_map refused_line (enumerate_from 0 (outcomes_from m [] es)) ++ server_states m (trace_from m [] es)
 
+-- the task of printing the state after a scenario, whose text is always clean
 abbrev pub state_task : Task
 state_task = text_task state_text

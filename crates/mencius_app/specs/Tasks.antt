@@ -1,4 +1,4 @@
--- A task of the program: what it makes of its input, what it writes, why it ends at a fault, and how much it asks.
+-- A task of the program, with the texts that it may write, the causes of its faults, and its limited use of streams.
 use Rattle.std.specs.Prelude.{◌≡◌, ◌≢◌, ◌⊎◌, ◌≤◌, ◌+◌, ℕ, Bool, List, Option, None, Result, Ok, Err, string_bytes}
 use Rattle.std.specs.Io.KnownBytes.{Appends, Keeps}
 use Rattle.mencius_io.specs.Streams.{HasFailed, StreamState, TakesAtMost, WritesFront, most_bytes, most_failed_calls}
@@ -16,33 +16,38 @@ pub record Streams : Type 0 where
   pub writer : StreamState
   pub writer_now : StreamState
 
+-- a reader and a writer with these states, each before and after a task
 abbrev pub streams : StreamState → StreamState → StreamState → StreamState → Streams
 streams reader reader_now writer writer_now =
     record { reader = reader; reader_now = reader_now; writer = writer; writer_now = writer_now }
 
--- how much a task asks of its reader at most
+-- a task took at most `most_bytes` + 1 bytes from its reader, and the count of the reader's failed calls grew by at
+-- most `most_failed_calls`
 pub record AsksReader (old new : StreamState) : Type 0 where
   pub taken : TakesAtMost (most_bytes + 1) old.bytes new.bytes
   pub tried : new.failures ≤ old.failures + most_failed_calls
 
--- how much a task asks of its reader and of its writer at most
+-- the use of the reader is limited, and the count of the writer's failed calls grew by at most `most_failed_calls`
 pub record AsksLittle (s : Streams) : Type 0 where
   pub reader : AsksReader s.reader s.reader_now
   pub tried : s.writer_now.failures ≤ s.writer.failures + most_failed_calls
 
 -- ---- a task
 
--- a task, by the bytes that its reader has, if they are known: the texts that it writes, and whether a text is clean (no
--- event was refused, and no promise is broken); and the faults that these bytes have
+-- a task, described for the reader's bytes, if these are known. `IsText` says which texts the task may write, and
+-- whether a text is clean (no event was refused, and no promise is broken). `IsBadInput` says which faults these bytes
+-- have
 pub record Task : Type 1 where
   pub IsText : Option (List ℕ) → List ℕ → Bool → Type 0
   pub IsBadInput : Option (List ℕ) → IoFault → Type 0
 
--- a task made this text of the bytes that its reader had, if they are known
+-- the task may make this output from the reader's bytes, if these are known
 abbrev pub IsOutput : Task → Option (List ℕ) → Output → Type 0
 IsOutput t known output = t.IsText known (string_bytes output.text) output.is_clean
 
--- what comes of writing the text that a task made, if it made one
+-- the result of writing the text that a task made, if it made one. It says whether the text is clean. If the writer
+-- failed, it is `WriteFailed`, and a prefix of the text was written. If the task made no text, it is the failure of the
+-- task
 abbrev pub Delivers : Result Output Failure → StreamState → StreamState → Result Bool Failure → Type 0
 Delivers (Ok output) old new (Ok is_clean) =
     (is_clean ≡ output.is_clean) × Appends old.bytes new.bytes (string_bytes output.text)
@@ -50,20 +55,21 @@ Delivers (Ok output) old new (Err failure) = (failure ≡ record { fault = Write
     × HasFailed old.failures new.failures × WritesFront old.bytes new.bytes (string_bytes output.text)
 Delivers (Err failure) old new result = result ≡ Err failure
 
--- a task wrote one of its texts, whole
+-- the task wrote one of its texts completely
 abbrev pub Writes : Task → Streams → Bool → Type 0
 Writes t s is_clean =
     (text : List ℕ) × t.IsText s.reader.bytes text is_clean × Appends s.writer.bytes s.writer_now.bytes text
 
--- why a task made no text: its input has the fault, or a call of the reader failed, or memory ran out
+-- the cause of the fault of a task that made no text. Its input has this fault, a call of the reader failed, or memory
+-- ran out
 pub record IsReadingCause (IsBadInput : Option (List ℕ) → IoFault → Type 0) (old new : StreamState) (fault : IoFault)
     : Type 0 where
   pub bad_input : (fault ≡ NotJson) ⊎ (fault ≡ BadShape) ⊎ (fault ≡ BadLimit) → IsBadInput old.bytes fault
   pub read_failed : fault ≡ ReadFailed → HasFailed old.failures new.failures
   pub no_writer : fault ≢ WriteFailed
 
--- why a task ended at a fault: its input has the fault, or a call of the reader or of the writer failed. If the writer
--- failed, the task wrote a prefix of one of its texts, and otherwise nothing
+-- the cause of the fault that ended a task. Its input has this fault, a call of the reader or the writer failed, or
+-- memory ran out. If the writer failed, the task wrote a prefix of one of its texts, and otherwise it wrote nothing
 pub record IsCause (t : Task) (s : Streams) (fault : IoFault) : Type 0 where
   pub bad_input : (fault ≡ NotJson) ⊎ (fault ≡ BadShape) ⊎ (fault ≡ BadLimit) → t.IsBadInput s.reader.bytes fault
   pub read_failed : fault ≡ ReadFailed → HasFailed s.reader.failures s.reader_now.failures

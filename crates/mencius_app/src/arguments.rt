@@ -3,14 +3,14 @@
 use std::alloc::{AllocError, Global};
 use std::env::{Env, FillError};
 
-// The room that an argument is first given, in bytes.
+// The size of the first buffer for an argument, in bytes.
 const FIRST_ROOM: usize = 256;
 
-/// The arguments behind the program's name, each as its bytes. The name is not asked for.
+/// Returns the arguments after the program's name, each as its bytes. It does not read the name.
 ///
 /// # Errors
 ///
-/// Memory ran out.
+/// Fails with `AllocError` if memory runs out.
 pub fn arguments_of<R: Env>(rt: &R, alloc: Global) -> Result<Vec<Vec<u8>>, AllocError> {
     let mut arguments = Vec::new(alloc);
     for place in 1..usize::MAX {
@@ -22,7 +22,7 @@ pub fn arguments_of<R: Env>(rt: &R, alloc: Global) -> Result<Vec<Vec<u8>>, Alloc
     Ok(arguments)
 }
 
-// The argument at this place, if there is one. Its room is doubled until it fits.
+// Returns the argument at this place, if it exists. The buffer doubles until the argument fits.
 fn argument_at<R: Env>(rt: &R, alloc: Global, place: usize) -> Result<Option<Vec<u8>>, AllocError> {
     let mut room = FIRST_ROOM;
     for _ in 0..usize::BITS {

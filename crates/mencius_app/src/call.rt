@@ -22,19 +22,19 @@ use std::alloc::Global;
 use std::sync::Wait;
 use std::thread::Threads;
 
-/// How far a call came without a run.
+/// How far a call came without doing a run.
 #[derive(Drop)]
 pub(crate) enum Begun {
-    /// It has ended.
+    /// The call has ended.
     Ended(Ending),
-    /// Its run is left to do.
+    /// The call still has to do its run.
     Run(RunOptions),
 }
 
 /// The options of a run.
 #[derive(Drop)]
 pub(crate) struct RunOptions {
-    /// Whether the journal's line comes first.
+    /// Whether the text begins with the line of the journal.
     pub with_journal: bool,
     /// Whether the observations of the servers replace the report.
     pub with_observations: bool,
@@ -42,15 +42,15 @@ pub(crate) struct RunOptions {
     pub key: Option<String>,
 }
 
-/// Does what the arguments after the program's name ask for. It does a [`replay`](crate::replay), a
-/// [`trace`](crate::trace), a picture ([`draw`](crate::draw)), a [`check`](crate::check) or a [`run`](crate::run) of
-/// the scenario in `source`, or judges the log in it ([`judge`](crate::judge)), and writes the text to `sink`. Help and
-/// the version go there too. If the arguments are wrong, for example because one is not UTF-8, it reads nothing and
-/// writes the reason to `errors`. Otherwise it writes nothing to `errors`: [`end`](crate::end) reports a fault. The
-/// arguments are without the program's own name.
+/// Does what the arguments after the program's name ask for, and writes the text to `sink`. It does a
+/// [`replay`](crate::replay), a [`trace`](crate::trace), a picture ([`draw`](crate::draw)), a [`check`](crate::check)
+/// or a [`run`](crate::run) of the scenario in `source`, or judges the log in it ([`judge`](crate::judge)). Help and
+/// the version go to `sink` too. The arguments do not include the program's own name. If they are wrong, for example
+/// because one is not UTF-8, it reads nothing and writes the reason to `errors`. Otherwise it writes nothing to
+/// `errors`, because [`end`](crate::end) reports a fault.
 ///
-/// It ends with `Done` only after it has written the whole text, and with `Refused` in its place if a strict replay
-/// had refused events or the log breaks a promise. Only a run waits for threads.
+/// It ends with `Done` only after it has written the whole text. If a strict replay had refused events or the log
+/// breaks a promise, it ends with `Refused` instead of `Done`. Only a run waits for threads.
 pub fn perform<R: Source, W: Sink, E: Sink, T: Threads + Wait + Sync>(
     rt: &T,
     alloc: Global,
@@ -74,8 +74,8 @@ pub fn perform<R: Source, W: Sink, E: Sink, T: Threads + Wait + Sync>(
     }
 }
 
-/// Does what [`perform`] does, and starts no thread: a run is one of [`run_in_turns`](crate::run_in_turns). It waits for
-/// nobody, and has no board that could fail.
+/// Does what [`perform`] does, but starts no thread. It does a run with [`run_in_turns`](crate::run_in_turns), so it
+/// never waits and has no board that could fail.
 pub fn perform_in_turns<R: Source, W: Sink, E: Sink>(
     alloc: Global,
     arguments: &[Vec<u8>],
@@ -98,7 +98,7 @@ pub fn perform_in_turns<R: Source, W: Sink, E: Sink>(
     }
 }
 
-// Does everything that the arguments ask for but a run: nothing was read or written for that.
+// Does everything that the arguments ask for, except a run. For a run, it reads and writes nothing.
 fn begin<R: Source, W: Sink, E: Sink>(
     alloc: Global,
     arguments: &[Vec<u8>],
@@ -121,7 +121,7 @@ fn begin<R: Source, W: Sink, E: Sink>(
         × (source.new ≡ source.old) × (sink.new ≡ sink.old) × (errors.new ≡ errors.old)) result }
 {
     if !are_texts(arguments) {
-        // There is nobody left to tell if standard error fails.
+        // If standard error fails, there is nowhere left to report it.
         let _ = write_all(errors, NOT_TEXT.as_bytes());
         return Begun::Ended(Ending::BadCommandLine);
     }
@@ -131,7 +131,7 @@ fn begin<R: Source, W: Sink, E: Sink>(
     }
 }
 
-// Does a task, if it is not a run.
+// Does a task, unless it is a run.
 fn begin_task<R: Source, W: Sink>(alloc: Global, task: Task, source: &mut R, sink: &mut W) -> Begun
     ensures ended { IfEnded (EndsTask (task_state task) (streams (R.state source.old) (R.state source.new)
         (W.state sink.old) (W.state sink.new))) result }
@@ -160,7 +160,7 @@ fn begin_task<R: Source, W: Sink>(alloc: Global, task: Task, source: &mut R, sin
     Begun::Ended(ending_of(is_reported, deliver(sink, made)))
 }
 
-// Does a run. Only this waits for threads.
+// Does a run in threads. No other function here waits for threads.
 fn perform_run<R: Source, W: Sink, T: Threads + Wait + Sync>(
     rt: &T,
     alloc: Global,

@@ -1,4 +1,4 @@
-//! What a check of a scenario prints.
+//! The check of a scenario, and the line that it prints.
 
 ghost use Rattle.std.specs.Prelude.{◌≡◌, ◌⊎◌, ◌++◌, map, string_bytes, true, IfErr, IfOk, IfSome, OnOk, Err, Ok};
 ghost use Rattle.std.specs.List.{flat_map};
@@ -16,22 +16,22 @@ use mencius_input::{Events, Kind, Scenario, kind_of, read_plan, read_scenario};
 use mencius_io::{Failure, IoFault, Sink, Source, read_all};
 use std::alloc::{AllocError, Global};
 
-/// Reads a scenario of `replay` or of `run` to its end, and writes how much it has: of `replay`'s
-/// the servers and the events, of a run's the servers, the workers, the turns of each, and the
-/// commands of each list. No event is stepped, and no worker takes a turn.
+/// Reads a scenario of `replay` or of `run` to its end, and writes how much it contains. For `replay`, it writes the
+/// numbers of servers and events. For `run`, it writes the numbers of servers, of workers, of turns of each worker, and
+/// of commands in each list. It steps no event, and no worker takes a turn.
 ///
-/// Which of the two it is, its fields say, as [`kind_of`] does.
+/// The fields of the scenario decide which of the two kinds it is, as in [`kind_of`].
 ///
 /// # Errors
 ///
-/// The fault that its task ends with where it reads the same.
+/// Fails with the same fault as `replay` or `run` (the task of that kind) if that task reads the same input.
 pub fn check<R: Source, W: Sink>(alloc: Global, source: &mut R, sink: &mut W) -> Result<(), Failure>
     // All bytes were read, they are a scenario, and its line was written.
     ensures end { OnOk result (IsAtEnd (R.state source.new).bytes) }
     ensures done { OnOk result (Writes check_task (streams (R.state source.old) (R.state source.new)
         (W.state sink.old) (W.state sink.new)) true) }
 
-    // Which fault, and when; and how much was asked of reader and writer in every case.
+    // The cause of a fault. In every case, the use of the reader and the writer is limited.
     ensures fault { IfErr result (Fails check_task ExplainsByFields (streams (R.state source.old) (R.state source.new)
         (W.state sink.old) (W.state sink.new))) }
     ensures asked { AsksLittle (streams (R.state source.old) (R.state source.new)
@@ -41,7 +41,7 @@ pub fn check<R: Source, W: Sink>(alloc: Global, source: &mut R, sink: &mut W) ->
     Ok(())
 }
 
-/// Reads a scenario, and makes its line.
+/// Reads a scenario and makes its line.
 pub(crate) fn read_check<R: Source>(alloc: Global, source: &mut R) -> Result<Output, Failure>
     ensures end { OnOk result (IsAtEnd (R.state source.new).bytes) }
     ensures made { IfOk result (IsOutput check_task (R.state source.old).bytes) }
@@ -60,7 +60,7 @@ pub(crate) fn read_check<R: Source>(alloc: Global, source: &mut R) -> Result<Out
     })
 }
 
-// The line of the scenario that these bytes are.
+// Returns the line of the scenario in these bytes.
 fn line_in(alloc: Global, bytes: &[u8]) -> Result<String, Failure>
     ensures line { IfOk result (λ s. (written : EitherScenario)
         × (either_scenario bytes.now ≡ Ok written) × (string_bytes s ≡ ok_line written)) }
@@ -81,7 +81,7 @@ fn line_in(alloc: Global, bytes: &[u8]) -> Result<String, Failure>
     }
 }
 
-// The line of bytes that do not have the shape of `replay`'s.
+// Returns the line of bytes that do not have the shape of a scenario of `replay`.
 fn line_of_other_shape(alloc: Global, bytes: &[u8]) -> Result<String, Failure>
     requires { scenario bytes.now ≡ Err IoFault.BadShape }
     ensures line { IfOk result (λ s. (written : EitherScenario)
@@ -97,7 +97,7 @@ fn line_of_other_shape(alloc: Global, bytes: &[u8]) -> Result<String, Failure>
     }
 }
 
-// The line of bytes that are meant as a run's.
+// Returns the line of the scenario in these bytes, which are meant as a scenario of `run`.
 fn line_of_run(alloc: Global, bytes: &[u8]) -> Result<String, Failure>
     requires { kind_in bytes.now ≡ Kind.Run }
     ensures line { IfOk result (λ s. (written : EitherScenario)
@@ -113,7 +113,7 @@ fn line_of_run(alloc: Global, bytes: &[u8]) -> Result<String, Failure>
     }
 }
 
-// The line of a scenario of `replay`.
+// Returns the line of a scenario of `replay`.
 fn replay_line(alloc: Global, scenario: &Scenario<Events>) -> Result<String, AllocError>
     ensures { IfOk result (λ s. string_bytes s ≡ replay_line scenario.now) }
 {
@@ -124,7 +124,7 @@ fn replay_line(alloc: Global, scenario: &Scenario<Events>) -> Result<String, All
     Ok(line)
 }
 
-// The line of a scenario of `run`.
+// Returns the line of a scenario of `run`.
 fn run_line(alloc: Global, scenario: &Scenario<Plan>) -> Result<String, AllocError>
     ensures { IfOk result (λ s. string_bytes s ≡ run_line scenario.now) }
 {
@@ -141,7 +141,7 @@ fn run_line(alloc: Global, scenario: &Scenario<Plan>) -> Result<String, AllocErr
     Ok(line)
 }
 
-// How many commands each list has.
+// Adds the number of commands in each list.
 fn push_list_counts(line: &mut String, lists: &[Vec<Command>]) -> Result<(), AllocError>
     ensures { OnOk result (string_bytes line.new
         ≡ string_bytes line.old ++ flat_map count_text (map (λ l. l.items) lists.now)) }

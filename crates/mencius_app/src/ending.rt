@@ -1,4 +1,4 @@
-//! How a call of the program ends: its exit status, and its lines on standard error.
+//! The end of a call of the program, with its exit status and its lines on standard error.
 
 ghost use Rattle.std.specs.Prelude.{◌≡◌, ◌⊎◌, ◌++◌, OnOk, OnErr, codes, option_copied};
 ghost use Rattle.std.specs.Io.KnownBytes.{Appends};
@@ -10,25 +10,29 @@ use crate::fault::AppFault;
 use crate::run_failure::RunFailure;
 use mencius_io::{Failure, IoFault, Sink, write_all};
 
-/// How a call of the program went.
+/// How a call of the program ended.
 #[derive(Debug, Drop, PartialEq, Eq)]
 pub enum Ending {
-    /// What the command line asks for was done, and its text was written whole.
+    /// The call did everything that the command line requests, and wrote the whole text.
     Done,
-    /// The same, but a strict replay had refused events, or the log that was judged breaks a promise.
+    /// The call wrote the whole text, but a strict replay had refused events, or the judged log breaks a promise.
     Refused,
     /// The command line is refused.
     BadCommandLine,
-    /// A task failed.
+    /// The call failed with a fault.
     Failed(Failure),
-    /// The board failed that the workers of a run share.
+    /// The board that the workers of a run share failed.
     BoardFailed,
 }
 
 /// Ends a call of the program. If the call failed, writes the line of its fault, `mencius: fault NUMBER NAME`, and then
-/// the words that explain it, if there are any. Returns the exit status: 0 if everything was done, 1 if a strict replay
-/// had refused events or a judged log breaks a promise, 2 for a bad command line, and otherwise [`exit_status`] of the
-/// fault. If the lines can't be written, the status stays the same.
+/// the words that explain it, if there are any. If the lines can't be written, the status stays the same. Returns the
+/// exit status:
+///
+/// - 0 if everything was done;
+/// - 1 if a strict replay had refused events or a judged log breaks a promise;
+/// - 2 for a bad command line;
+/// - otherwise [`exit_status`] of the fault.
 pub fn end<E: Sink>(ending: Ending, errors: &mut E) -> u8
     ensures status { result ≡ status_of_ending ending }
     ensures lines { WritesOrFails (E.state errors.old) (E.state errors.new) (lines_of_ending ending) }
@@ -44,7 +48,8 @@ pub fn end<E: Sink>(ending: Ending, errors: &mut E) -> u8
     }
 }
 
-/// How a call ends whose task came to this. A text that is not clean is only reported if `is_reported`.
+/// Returns the ending of a call from the result of its task. If a text is not clean, the ending is `Refused` only if
+/// `is_reported` is set.
 pub(crate) fn ending_of(is_reported: bool, done: Result<bool, Failure>) -> Ending
     ensures { result ≡ ending_of is_reported done }
 {
@@ -60,7 +65,7 @@ pub(crate) fn ending_of(is_reported: bool, done: Result<bool, Failure>) -> Endin
     }
 }
 
-/// How a call ends whose run came to this.
+/// Returns the ending of a call from the result of its run.
 pub(crate) fn ending_of_run(done: Result<(), RunFailure>) -> Ending
     ensures { result ≡ ending_of_run done }
 {
@@ -71,8 +76,8 @@ pub(crate) fn ending_of_run(done: Result<(), RunFailure>) -> Ending
     }
 }
 
-/// The exit status of a task that ended at a fault: 3 for a bad scenario, 4 if reading or writing
-/// failed, and 5 if memory ran out or the board failed.
+/// Returns the exit status of a task that ended with a fault. It is 3 for a bad input, 4 if reading or writing failed,
+/// and 5 if memory ran out or the board failed.
 pub fn exit_status(fault: AppFault) -> u8
     ensures { result ≡ status_of fault }
 {
@@ -83,13 +88,13 @@ pub fn exit_status(fault: AppFault) -> u8
     }
 }
 
-// Writes the line of a fault, and then the line of the words for it. Returns the exit status.
+// Writes the line of a fault, and then the words for it as another line, if there are any. Returns the exit status.
 fn write_fault<E: Sink>(errors: &mut E, fault: AppFault, words: Option<&str>) -> u8
     ensures status { result ≡ status_of fault }
     ensures lines { WritesOrFails (E.state errors.old) (E.state errors.new)
         (fault_line fault ++ words_line (option_copied words.entry)) }
 {
-    // There is nobody left to tell if standard error fails.
+    // If standard error fails, there is nowhere left to report it.
     let _ = match words {
         Some(words) => write_words(errors, line_of_fault(fault), words),
         None => write_all(errors, line_of_fault(fault).as_bytes()),
@@ -125,7 +130,7 @@ pub(crate) fn write_both<E: Sink>(errors: &mut E, first: &str, second: &str) -> 
     done
 }
 
-// The line of a fault. It does not allocate, because memory may be what ran out.
+// Returns the line of a fault. It does not allocate, because memory may have run out.
 fn line_of_fault(fault: AppFault) -> &'static str
     ensures { result.now ≡ fault_line fault }
 {

@@ -8,7 +8,7 @@ use mencius_input::{Kind, explain, explain_unread, read_plan, read_scenario};
 use mencius_io::{Failure, IoFault};
 use std::alloc::Global;
 
-/// The failure of a task that could not read all of its input.
+/// Returns the failure of a task that could not read all of its input.
 pub(crate) fn unread(alloc: Global, fault: IoFault) -> Failure
     ensures fault { result.fault ≡ fault }
     ensures words { IfSome result.words (λ words. ExplainsUnread fault (string_bytes words)) }
@@ -21,7 +21,7 @@ pub(crate) fn unread(alloc: Global, fault: IoFault) -> Failure
     Failure { fault, words }
 }
 
-/// The failure of a task whose input has a fault as a scenario of this kind.
+/// Returns the failure of a task whose input, as a scenario of this kind, has this fault.
 pub(crate) fn misread(alloc: Global, kind: Kind, bytes: &[u8], fault: IoFault) -> Failure
     ensures fault { result.fault ≡ fault }
     ensures words { IfSome result.words (λ words.
@@ -35,8 +35,8 @@ pub(crate) fn misread(alloc: Global, kind: Kind, bytes: &[u8], fault: IoFault) -
     Failure { fault, words }
 }
 
-/// The failure of a task that takes only scenarios of this kind. Its words say so if the input is a scenario of the
-/// other kind.
+/// Returns the failure of a task that accepts only scenarios of this kind. If the input is a scenario of the other
+/// kind, the words say so.
 pub(crate) fn misread_as(alloc: Global, kind: Kind, bytes: &[u8], fault: IoFault) -> Failure
     ensures fault { result.fault ≡ fault }
     ensures words { IfSome result.words (λ words.
@@ -49,7 +49,7 @@ pub(crate) fn misread_as(alloc: Global, kind: Kind, bytes: &[u8], fault: IoFault
     misread(alloc, kind, bytes, fault)
 }
 
-// Whether these bytes are a scenario of the other kind. If memory runs out, the answer is no.
+// Returns whether these bytes are a scenario of the other kind, or `false` if memory runs out.
 fn is_other_kind(alloc: Global, kind: Kind, bytes: &[u8]) -> bool
     ensures { result ≡ true → IsOtherKind kind bytes.now }
 {

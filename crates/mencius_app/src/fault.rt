@@ -1,4 +1,4 @@
-//! The faults at which a task ends.
+//! The faults that end a task.
 
 ghost use Rattle.std.specs.Prelude.{◌≡◌};
 ghost use Rattle.mencius_app.specs.Fault.{fault_name, fault_number};
@@ -28,7 +28,7 @@ pub enum AppFault {
 }
 
 impl AppFault {
-    /// The number of the fault, 21 to 27, as the program prints it.
+    /// Returns the number of the fault, 21 to 27, as the program prints it.
     pub fn number(&self) -> u8
         ensures { result ≡ fault_number self.now }
     {
@@ -43,7 +43,7 @@ impl AppFault {
         }
     }
 
-    /// The name of the fault, as the program prints it.
+    /// Returns the name of the fault, as the program prints it.
     pub fn name(&self) -> &'static str
         ensures { result.now ≡ fault_name self.now }
     {

@@ -1,4 +1,4 @@
-//! How a task reads its scenario.
+//! Reads the scenario of a task.
 
 ghost use Rattle.std.specs.Prelude.{◌≡◌, IfErr, IfOk, OnOk};
 ghost use Rattle.std.specs.Io.KnownBytes.{IsAtEnd};
@@ -12,7 +12,7 @@ use mencius_input::{Events, Kind, Scenario, read_scenario};
 use mencius_io::{Failure, Source, read_all};
 use std::alloc::Global;
 
-/// Reads the scenario of `replay` that a reader has.
+/// Reads a scenario of `replay` from a reader, to its end.
 pub(crate) fn read_input<R: Source>(
     alloc: Global,
     source: &mut R,

@@ -1,4 +1,4 @@
-//! What a judgement of a log prints.
+//! The judgement of a log, and the line that it prints.
 
 ghost use Rattle.std.specs.Prelude.{◌≡◌, ◌≤◌, ◌+◌, string_bytes, IfErr, IfOk};
 ghost use Rattle.mencius_io.specs.Streams.{most_failed_calls};
@@ -11,13 +11,13 @@ use mencius_io::{Failure, Sink, Source};
 use mencius_judge::{Verdict, judge_log, push_broken, push_kept};
 use std::alloc::{AllocError, Global};
 
-/// Judges the log that a reader has, as its bytes come, and writes the one line of the verdict: once a
-/// line breaks a promise, without waiting for more, or at the end of the log. Returns whether all
-/// promises are kept.
+/// Judges the log from a reader as its bytes arrive, and writes the verdict as one line. If a line of the log breaks a
+/// promise, it writes the verdict at once, without waiting for more. Otherwise it writes the verdict at the end of the
+/// log. Returns whether all promises are kept.
 ///
 /// # Errors
 ///
-/// Those of [`judge_log`], and `WriteFailed`.
+/// Fails with the errors of [`judge_log`], and with `WriteFailed`.
 pub fn judge<R: Source, W: Sink>(
     alloc: Global,
     source: &mut R,
@@ -27,7 +27,7 @@ pub fn judge<R: Source, W: Sink>(
     ensures done { IfOk result (Writes judge_task (streams (R.state source.old) (R.state source.new)
         (W.state sink.old) (W.state sink.new))) }
 
-    // Which fault, and when; and how many calls failed in every case.
+    // The cause of a fault. In every case, the number of failed calls is limited.
     ensures fault { IfErr result (Fails judge_task ExplainsByLine (streams (R.state source.old) (R.state source.new)
         (W.state sink.old) (W.state sink.new))) }
     ensures few_reads { (R.state source.new).failures
@@ -38,7 +38,7 @@ pub fn judge<R: Source, W: Sink>(
     deliver(sink, read_judgement(alloc, source))
 }
 
-/// Judges a log, and makes the line of the verdict.
+/// Judges a log and makes the line of the verdict.
 pub(crate) fn read_judgement<R: Source>(alloc: Global, source: &mut R) -> Result<Output, Failure>
     ensures made { IfOk result (IsOutput judge_task (R.state source.old).bytes) }
     ensures fault { IfErr result (FailsReading judge_task.IsBadInput ExplainsByLine
@@ -54,7 +54,7 @@ pub(crate) fn read_judgement<R: Source>(alloc: Global, source: &mut R) -> Result
     })
 }
 
-// The line of a verdict.
+// Returns the line of a verdict.
 fn line_of(alloc: Global, verdict: &Verdict) -> Result<String, AllocError>
     ensures { IfOk result (λ s. string_bytes s ≡ verdict_line verdict.now) }
 {

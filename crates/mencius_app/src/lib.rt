@@ -1,5 +1,5 @@
-//! The edge of the program, from the bytes of a scenario to the bytes of a report: what a replay, a
-//! trace, a state, a check, a judgement and a run make of their input, and the texts that they print.
+//! The tasks of the program, from the bytes of an input to the text that they print. They replay, trace, draw, check or
+//! run a scenario, print the state after it, or judge a log.
 #![tactic(auto)]
 
 mod arguments;

@@ -1,4 +1,4 @@
-//! What is printed for arguments that ask for no task.
+//! Prints help, the version, or the mistake in the arguments.
 
 ghost use Rattle.std.specs.Prelude.{◌≡◌, ◌≢◌, ◌⊎◌, ◌≤◌, ◌+◌, ℕ, List, IfSome, Some, None};
 ghost use Rattle.std.specs.Io.KnownBytes.{Appends};
@@ -16,8 +16,8 @@ use mencius_command_line::text_to_show;
 use mencius_io::{Failure, IoFault, Sink, write_all};
 use std::alloc::Global;
 
-/// `clap`'s words for an argument that is not text. They are ready, so that such an argument is reported even if memory
-/// runs out.
+/// The message of `clap` for an argument that is not text. It is a constant, so the program can report such an argument
+/// even if memory runs out.
 pub(crate) const NOT_TEXT: &str = "\
 error: invalid UTF-8 was detected in one or more arguments
 
@@ -26,10 +26,10 @@ Usage: mencius <COMMAND>
 For more information, try '--help'.
 ";
 
-// How each of `clap`'s messages begins.
+// The beginning of each message of `clap`.
 const ERROR: &str = "error: ";
 
-/// Writes help or the version to `sink`, if the arguments ask for it, and otherwise writes what is wrong with them to
+/// Writes help or the version to `sink` if the arguments request it. Otherwise, writes the mistake in the arguments to
 /// `errors`.
 pub(crate) fn answer_command_line<W: Sink, E: Sink>(
     alloc: Global,
@@ -38,7 +38,7 @@ pub(crate) fn answer_command_line<W: Sink, E: Sink>(
     sink: &mut W,
     errors: &mut E,
 ) -> Ending
-    // Only a text that was asked for ends the call well.
+    // The call ends with `Done` only if it wrote the text that the arguments request.
     ensures done { result ≡ Ending.Done → (text : List ℕ)
         × (shown_for (kind_of error.now) (bytes_of arguments.now) ≡ Some text)
         × Appends (W.state sink.old).bytes (W.state sink.new).bytes text }
@@ -75,7 +75,7 @@ pub(crate) fn answer_command_line<W: Sink, E: Sink>(
     }
 }
 
-// Writes what is wrong with the command line.
+// Writes the mistake in the command line to `errors`.
 fn complain<E: Sink>(alloc: Global, error: &Error, errors: &mut E) -> Ending
     ensures cases { (result ≡ Ending.BadCommandLine)
         ⊎ (result ≡ Ending.Failed (record { fault = IoFault.NoMemory; words = None })) }
@@ -90,9 +90,10 @@ fn complain<E: Sink>(alloc: Global, error: &Error, errors: &mut E) -> Ending
         });
     };
     let text = text.as_str();
-    // `clap` promises nothing about its text. Each one begins so, and this makes sure of it.
+    // `clap` promises nothing about its text. Each of its messages does begin with `ERROR`, and this code makes sure of
+    // it.
     let words = text.strip_prefix(ERROR).unwrap_or(text);
-    // There is nobody left to tell if standard error fails.
+    // If standard error fails, there is nowhere left to report it.
     let _ = write_both(errors, ERROR, words);
     Ending::BadCommandLine
 }

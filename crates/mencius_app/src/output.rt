@@ -6,7 +6,7 @@ ghost use Rattle.mencius_app.specs.Tasks.{Delivers};
 
 use mencius_io::{Failure, Sink, write_all};
 
-/// The text that a task makes of its input.
+/// The text that a task makes from its input.
 #[derive(Drop)]
 pub(crate) struct Output {
     /// The whole text.

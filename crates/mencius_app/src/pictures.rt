@@ -1,4 +1,4 @@
-//! What a picture of a scenario prints.
+//! Draws the trace of a scenario as a picture.
 
 ghost use Rattle.std.specs.Prelude.{◌≡◌, IfErr, IfOk, IfSome, Ok, OnOk, string_bytes, true};
 ghost use Rattle.std.specs.Io.KnownBytes.{IsAtEnd};
@@ -14,10 +14,9 @@ use mencius_draw::{MOST_LEVELS, Options, TooLarge, picture};
 use mencius_io::{Failure, IoFault, Sink, Source};
 use std::alloc::{AllocError, Global};
 
-/// Reads a scenario to its end, and writes the picture of the text that a [`trace`](crate::trace) of
-/// it would write, or of the events that `options` name. The whole text is made before any of it is
-/// written. A part that takes more levels than a picture may have is a `BadLimit`, and the words for
-/// it name the options that ask for fewer events.
+/// Reads a scenario to its end, and writes a picture of its [`trace`](crate::trace), or of the events that `options`
+/// name. The whole text is made before any of it is written. If the part takes more levels than a picture may have, the
+/// fault is `BadLimit`. Its words then name the options that ask for fewer events.
 pub fn draw<R: Source, W: Sink>(
     alloc: Global,
     source: &mut R,
@@ -29,7 +28,7 @@ pub fn draw<R: Source, W: Sink>(
     ensures done { OnOk result (Writes (draw_task options.now) (streams (R.state source.old) (R.state source.new)
         (W.state sink.old) (W.state sink.new)) true) }
 
-    // Which fault, and when; and how much was asked of reader and writer in every case.
+    // The cause of a fault. In every case, the use of the reader and the writer is limited.
     ensures fault { IfErr result (Fails (draw_task options.now) (ExplainsPicture options.now) (streams (R.state source.old) (R.state source.new)
         (W.state sink.old) (W.state sink.new))) }
     ensures asked { AsksLittle (streams (R.state source.old) (R.state source.new)
@@ -39,7 +38,7 @@ pub fn draw<R: Source, W: Sink>(
     Ok(())
 }
 
-/// Reads a scenario, and makes the picture of its trace.
+/// Reads a scenario and makes the picture of its trace.
 pub(crate) fn read_picture<R: Source>(
     alloc: Global,
     source: &mut R,
@@ -60,7 +59,7 @@ pub(crate) fn read_picture<R: Source>(
     })
 }
 
-// The picture of a trace, or the failure if it would be too large.
+// Returns the picture of a trace, or the failure if the picture would be too large.
 fn drawn(alloc: Global, trace: &str, options: &Options) -> Result<String, Failure>
     ensures picture { IfOk result (λ text. IsPicture options.now trace.now (Ok text)) }
     ensures refused { IfErr result (IsRefusedAs options.now trace.now) }
@@ -71,7 +70,7 @@ fn drawn(alloc: Global, trace: &str, options: &Options) -> Result<String, Failur
     }
 }
 
-// The failure of a part that is too large.
+// Returns the failure of a part of a trace that is too large for a picture.
 fn too_large(alloc: Global, large: TooLarge) -> Failure
     ensures fault { result.fault ≡ IoFault.BadLimit }
     ensures words { IfSome result.words (λ words. string_bytes words ≡ too_large_words large.levels) }

@@ -1,4 +1,4 @@
-//! The report of a cluster.
+//! Prints the report of a cluster.
 
 ghost use Rattle.std.specs.Prelude.{ℕ, ◌≡◌, ◌<◌, ◌≤◌, ◌+◌, ◌⊎◌, ◌++◌, length, string_bytes, Some, [], IfErr, IsErrOf, OnOk, slice_get};
 ghost use Rattle.std.specs.Io.KnownBytes.{Appends};
@@ -19,7 +19,7 @@ use mencius_io::{Sink, write_all};
 use mencius_trace::push_answer;
 use std::alloc::{AllocError, Global};
 
-/// Writes the report of a cluster, whole. At most 1,001 calls of the writer fail.
+/// Writes the whole report of a cluster. At most 1,001 calls of the writer fail.
 pub fn report<W: Sink>(alloc: Global, cluster: &Cluster, sink: &mut W) -> Result<(), AppFault>
     ensures whole { OnOk result (Appends (W.state sink.old).bytes (W.state sink.new).bytes
         (report_text cluster.now.members (trace_of cluster.now))) }
@@ -66,7 +66,7 @@ fn push_servers(text: &mut String, cluster: &Cluster) -> Result<(), AllocError>
     Ok(())
 }
 
-/// Adds the line of a server: its front, how far it is, and its history.
+/// Adds the line of a server, with its front, the number of instances that it executed, and its history.
 pub(crate) fn push_server(
     text: &mut String,
     cluster: &Cluster,

@@ -4,13 +4,13 @@ use mencius_board::BoardFault;
 use mencius_io::{Failure, IoFault};
 use std::alloc::AllocError;
 
-/// Why a run failed: for a reason that any task may have, or because its board failed.
+/// The reason why a run failed. It is either a reason that any task may have, or a failure of the board.
 #[derive(Debug, Drop, PartialEq, Eq)]
 pub enum RunFailure {
-    /// Its input, its reader, its writer or memory.
+    /// The input is bad, reading or writing failed, or memory ran out.
     Failed(Failure),
-    /// The board that the workers share: a thread could not be started, the board gave no reader
-    /// or showed nothing, or the lookup saw another history than the one that was shown last.
+    /// The board that the workers share failed. Either a thread could not be started, or the board gave no reader or
+    /// showed nothing, or the lookup did not see the history that was shown last.
     BoardFailed,
 }
 

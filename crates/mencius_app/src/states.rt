@@ -1,4 +1,4 @@
-//! What the state after a scenario prints.
+//! Prints the state of each server after a scenario.
 
 ghost use Rattle.std.specs.Prelude.{◌≡◌, ◌<◌, ◌++◌, [], true, string_bytes, IfErr, IfOk, OnOk};
 ghost use Rattle.std.specs.Io.KnownBytes.{IsAtEnd};
@@ -27,21 +27,26 @@ use mencius_input::{Events, Kind};
 use mencius_io::{Failure, Sink, Source};
 use std::alloc::{AllocError, Global};
 
-/// Reads a scenario to its end, steps a new cluster through its events, and writes a line for each event that was
-/// refused, and then for each server its line of the report and a line for each instance that it heard of: what it
-/// promised and accepted there, which ballot it tries, what it proposed at that, how many servers' promises and
-/// acceptances it heard of it, and what it learned. The whole text is made before any of it is written.
+/// Reads a scenario to its end and steps a new cluster through its events. Then writes a line for each refused event.
+/// After these lines, it writes for each server the server's line of the report, and a line for each instance that the
+/// server knows anything about. The line of an instance contains:
 ///
-/// It goes along the messages once for each server, and up to the proposal for each instance where that accepted
-/// something. If memory runs out at an event, it fails with
-/// `NoMemory`.
+/// - the ballot that the server promised there, and the vote of the server;
+/// - the ballot that the server tries, and the value that it proposed at that ballot;
+/// - the numbers of servers whose promises and acceptances at that ballot the server heard;
+/// - the value that the server learned.
+///
+/// The whole text is made before any of it is written.
+///
+/// The work is one pass over the messages for each server. For each instance where the server accepted something, there
+/// is another pass up to the proposal. If memory runs out at an event, the task fails with `NoMemory`.
 pub fn state<R: Source, W: Sink>(alloc: Global, source: &mut R, sink: &mut W) -> Result<(), Failure>
     // All bytes were read, they are a scenario, and the text of the state after it was written.
     ensures end { OnOk result (IsAtEnd (R.state source.new).bytes) }
     ensures done { OnOk result (Writes state_task (streams (R.state source.old) (R.state source.new)
         (W.state sink.old) (W.state sink.new)) true) }
 
-    // Which fault, and when; and how much was asked of reader and writer in every case.
+    // The cause of a fault. In every case, the use of the reader and the writer is limited.
     ensures fault { IfErr result (Fails state_task (ExplainsAs Kind.Replay) (streams (R.state source.old) (R.state source.new)
         (W.state sink.old) (W.state sink.new))) }
     ensures asked { AsksLittle (streams (R.state source.old) (R.state source.new)
@@ -51,7 +56,7 @@ pub fn state<R: Source, W: Sink>(alloc: Global, source: &mut R, sink: &mut W) ->
     Ok(())
 }
 
-// Reads a scenario, and makes the text of the state after it.
+// Reads a scenario and makes the text of the state after it.
 fn read_state<R: Source>(alloc: Global, source: &mut R) -> Result<Output, Failure>
     ensures end { OnOk result (IsAtEnd (R.state source.new).bytes) }
     ensures made { IfOk result (IsOutput state_task (R.state source.old).bytes) }
@@ -67,7 +72,7 @@ fn read_state<R: Source>(alloc: Global, source: &mut R) -> Result<Output, Failur
     })
 }
 
-// The text of the state after events.
+// Makes the text of the state after these events.
 fn state_of(alloc: Global, members: Members, events: Events) -> Result<String, NoMemory>
     ensures text { IfOk result (λ s. string_bytes s ≡ state_text members events) }
 {
@@ -77,8 +82,8 @@ fn state_of(alloc: Global, members: Members, events: Events) -> Result<String, N
     Ok(text)
 }
 
-// Steps a new cluster, which has the salt of the events, through them, and adds a line for each that is
-// refused, and then the state.
+// Steps a new cluster, which has the salt of the events, through these events. Adds a line for each refused event, and
+// then the state.
 fn push_state(
     alloc: Global,
     text: &mut String,
@@ -119,7 +124,7 @@ fn push_server_state(
     push_slots(alloc, text, cluster, server)
 }
 
-// A line for each instance that the server heard of.
+// Adds a line for each instance that the server knows anything about.
 fn push_slots(
     alloc: Global,
     text: &mut String,
@@ -137,7 +142,8 @@ fn push_slots(
     Ok(())
 }
 
-// The line of an instance where the server accepted this ballot last, if it heard of the instance.
+// Adds the line of an instance, if the server knows anything about it. `ballot` is the greatest ballot that the server
+// accepted there.
 fn push_slot_at(
     text: &mut String,
     cluster: &Cluster,
@@ -177,7 +183,7 @@ fn push_slot(
     text.push('\n')
 }
 
-// Whether anything was heard or done at an instance of which this is known.
+// Returns whether a server with this glance and this vote heard or did anything at the instance.
 fn is_heard_of(glance: &Glance, vote: &Option<Vote>) -> bool
     ensures { result ≡ is_heard_of glance.now vote.now }
 {
@@ -188,7 +194,7 @@ fn is_heard_of(glance: &Glance, vote: &Option<Vote>) -> bool
         || glance.learned.is_some()
 }
 
-// What is known, as acceptor, as proposer and as learner.
+// Adds the knowledge of the server as acceptor, as proposer and as learner.
 fn push_knowledge(
     text: &mut String,
     cluster: &Cluster,
@@ -267,7 +273,7 @@ fn push_value_or_none(
     }
 }
 
-// A command goes by its identity.
+// Adds a value. A command is printed as its identity.
 fn push_value(text: &mut String, cluster: &Cluster, value: Value) -> Result<(), AllocError>
     ensures { OnOk result (string_bytes text.new
         ≡ string_bytes text.old ++ value_text (trace_of cluster.now) value) }

@@ -1,4 +1,4 @@
-//! What a trace of a scenario prints.
+//! The trace of a scenario, and the text that it prints.
 
 ghost use Rattle.std.specs.Prelude.{◌≡◌, ◌++◌, [], true, string_bytes, IfErr, IfOk, OnOk};
 ghost use Rattle.std.specs.Io.KnownBytes.{IsAtEnd};
@@ -21,17 +21,16 @@ use mencius_io::{Failure, Sink, Source};
 use mencius_trace::{push_closing, tell};
 use std::alloc::Global;
 
-/// Reads a scenario to its end, steps a new cluster through its events, and writes what each of them
-/// did, one fact a line, and then how far each server is and which messages were not heard. The
-/// whole text is made before any of it is written. If memory runs out at an event, the trace fails
-/// with `NoMemory`.
+/// Reads a scenario to its end and steps a new cluster through its events. Writes the effects of each event, one fact
+/// on each line. Then writes how far each server is, and which messages were not heard. The whole text is made before
+/// any of it is written. If memory runs out at an event, the trace fails with `NoMemory`.
 pub fn trace<R: Source, W: Sink>(alloc: Global, source: &mut R, sink: &mut W) -> Result<(), Failure>
     // All bytes were read, they are a scenario, and the text of its trace was written.
     ensures end { OnOk result (IsAtEnd (R.state source.new).bytes) }
     ensures done { OnOk result (Writes trace_task (streams (R.state source.old) (R.state source.new)
         (W.state sink.old) (W.state sink.new)) true) }
 
-    // Which fault, and when; and how much was asked of reader and writer in every case.
+    // The cause of a fault. In every case, the use of the reader and the writer is limited.
     ensures fault { IfErr result (Fails trace_task (ExplainsAs Kind.Replay) (streams (R.state source.old) (R.state source.new)
         (W.state sink.old) (W.state sink.new))) }
     ensures asked { AsksLittle (streams (R.state source.old) (R.state source.new)
@@ -41,7 +40,7 @@ pub fn trace<R: Source, W: Sink>(alloc: Global, source: &mut R, sink: &mut W) ->
     Ok(())
 }
 
-/// Reads a scenario, and makes the text of its trace.
+/// Reads a scenario and makes the text of its trace.
 pub(crate) fn read_trace<R: Source>(alloc: Global, source: &mut R) -> Result<Output, Failure>
     ensures end { OnOk result (IsAtEnd (R.state source.new).bytes) }
     ensures made { IfOk result (IsOutput trace_task (R.state source.old).bytes) }
@@ -57,7 +56,7 @@ pub(crate) fn read_trace<R: Source>(alloc: Global, source: &mut R) -> Result<Out
     })
 }
 
-/// The text of a trace.
+/// Makes the text of the trace of a new cluster that steps through these events.
 pub(crate) fn traced(alloc: Global, members: Members, events: Events) -> Result<String, NoMemory>
     ensures text { IfOk result (λ s. string_bytes s ≡ trace_text members events) }
 {
@@ -67,7 +66,7 @@ pub(crate) fn traced(alloc: Global, members: Members, events: Events) -> Result<
     Ok(text)
 }
 
-// Adds the trace of these events and of a new cluster, which has their salt.
+// Adds the trace of a new cluster, which has the salt of these events, and steps the cluster through them.
 fn push_trace(
     alloc: Global,
     text: &mut String,
@@ -84,8 +83,8 @@ fn push_trace(
     push_events(alloc, text, cluster, events)
 }
 
-// Steps a cluster through the events, and adds each with what came of it; and then what is told
-// after the last.
+// Steps a cluster through the events, and adds each event with its effects. After the last event, adds the closing
+// lines.
 fn push_events(
     alloc: Global,
     text: &mut String,

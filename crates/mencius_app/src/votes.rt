@@ -1,4 +1,4 @@
-//! What a server accepted, asked of the messages that were sent.
+//! Finds the votes of a server in the messages that were sent.
 
 ghost use Rattle.std.specs.Prelude.{ℕ, ◌≡◌, ◌<◌, IfOk, None, Some, option_and_then, option_map, slice_index_or, vec_len};
 ghost use Rattle.mencius_base.specs.Limits.{instance_count};
@@ -11,7 +11,7 @@ use mencius_base::{Ballot, INSTANCES, Message, Value, Vote};
 use mencius_cluster::Cluster;
 use std::alloc::{AllocError, Global};
 
-/// For each instance the greatest ballot that a server accepted there, if it accepted one.
+/// Returns for each instance the greatest ballot that the server accepted there, if it accepted any.
 pub(crate) fn accepted_by(
     alloc: Global,
     cluster: &Cluster,
@@ -31,7 +31,7 @@ pub(crate) fn accepted_by(
     Ok(ballots)
 }
 
-// No ballot, at each instance.
+// Returns a list without a ballot at any instance.
 fn no_ballots(alloc: Global) -> Result<Vec<Option<Ballot>>, AllocError>
     ensures len { IfOk result (λ x. vec_len x ≡ instance_count) }
     ensures none { IfOk result (λ x. (i : ℕ) → slice_index_or x.items i None ≡ None) }
@@ -43,7 +43,7 @@ fn no_ballots(alloc: Global) -> Result<Vec<Option<Ballot>>, AllocError>
     Ok(ballots)
 }
 
-// Notes a message, where it says that the server accepted a greater ballot than before.
+// Raises the ballot at an instance if the message says that the server accepted a greater ballot there than before.
 fn raise(ballots: &mut Vec<Option<Ballot>>, server: u8, message: &Message)
     requires { vec_len ballots.old ≡ instance_count }
     ensures len { vec_len ballots.new ≡ instance_count }
@@ -73,7 +73,7 @@ fn greater_ballot(former: Option<Ballot>, ballot: Ballot) -> Ballot
     }
 }
 
-/// What a server accepted last at an instance, which was at this ballot, if it accepted anything.
+/// Returns the vote of a server at an instance. `ballot` is the greatest ballot that the server accepted there, if any.
 pub(crate) fn vote_of(cluster: &Cluster, inst: u32, ballot: Option<Ballot>) -> Option<Vote>
     ensures { result ≡ option_and_then
         (λ b. option_map (λ x. record { ballot = b; value = x }) (proposal (trace_of cluster.now) inst b)) ballot }
@@ -83,7 +83,7 @@ pub(crate) fn vote_of(cluster: &Cluster, inst: u32, ballot: Option<Ballot>) -> O
     Some(Vote { ballot, value })
 }
 
-// What was proposed at a ballot of an instance, if anything.
+// Returns the value that was proposed at a ballot of an instance, if any.
 fn proposal(cluster: &Cluster, inst: u32, ballot: Ballot) -> Option<Value>
     ensures { result ≡ proposal (trace_of cluster.now) inst ballot }
 {
@@ -99,7 +99,7 @@ fn proposal(cluster: &Cluster, inst: u32, ballot: Ballot) -> Option<Value>
     None
 }
 
-// What a message proposes at a ballot of an instance, if anything.
+// Returns the value that a message proposes at a ballot of an instance, if any.
 fn proposal_by(message: &Message, at: u32, tried: Ballot) -> Option<Value>
     ensures { result ≡ proposal_by at tried (Sent message.now) }
 {

@@ -1,4 +1,4 @@
--- The least instance that a server owns.
+-- `first_owned` gives the lowest instance that a server owns from a place on.
 use Rattle.std.proofs.Common.{◌≡◌, ◌⊎◌, inl, inr, refl, ℕ, ◌+◌, ◌-◌, ◌*◌, ◌/◌, ◌%◌, ◌<◌, ◌≤◌, arith, sym, ◌∙◌, ap, subst}
 use Rattle.std.proofs.lemmas.Bool.{cases_lt}
 use Rattle.std.proofs.Math.Nat.{div-add-mod, add-mod_left, mul-le-mul_left, mod-eq_of_lt, mod-lt, mul-add-mod_self_left}
@@ -15,7 +15,8 @@ above_rest n p rest more member =
     let e : p + n - rest ≡ n + (p - rest) = omega arith in
     rw e (add-mod_left n (p - rest) ∙ mod-eq_of_lt (omega arith))
 
--- p in a whole round: in this round where the rest did not pass p, and else in the next one
+-- `place` is the instance of p in one round of the owners. It is round `turn` if `rest` is at most p, and otherwise the
+-- next round
 record IsPlace (n p turn rest place : ℕ) : Type 0 where
   pub round : ℕ
   pub is : place ≡ n * round + p
@@ -49,7 +50,7 @@ first_owned_owner m p from member =
     let there = placed m p from member in
     rw there.is (mul-add-mod_self_left m.count there.round p ∙ mod-eq_of_lt member)
 
--- an instance of p from a place on is in no earlier round
+-- an instance of p that is not below a place is not below the instance of `IsPlace` either
 not_before : (n p turn rest round other : ℕ) → n * turn + rest ≤ n * other + p → p < n
     → ((round ≡ turn) × (rest ≤ p)) ⊎ ((round ≡ turn + 1) × (p < rest)) → n * round + p ≤ n * other + p
 not_before n p turn rest round other above member (inl here) =

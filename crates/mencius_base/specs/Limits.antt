@@ -1,4 +1,4 @@
--- The limits of a cluster and of a run, by number. The code has the same numbers in `src/limits.rt`. The greatest
+-- The limits of a cluster and of a run, as numbers. The code has the same numbers in `src/limits.rt`. The greatest
 -- numbers of messages and of events are in `Members.antt`, next to the list of all instances.
 use Rattle.std.specs.Prelude.{ℕ}
 
@@ -10,7 +10,8 @@ most_servers = 7
 abbrev pub instance_count : ℕ
 instance_count = 4096
 
--- the greatest front, and the greatest stop of a Skip: seven past the last instance, with seven servers
+-- the greatest front, and the greatest stop of a Skip. With seven servers, it is the front of the server that has used
+-- instance 4095
 abbrev pub greatest_front : ℕ
 greatest_front = 4102
 
@@ -18,7 +19,7 @@ greatest_front = 4102
 abbrev pub greatest_round : ℕ
 greatest_round = 65535
 
--- the greatest number of a ballot: the one of server 6 in the greatest round, with seven servers
+-- the greatest number of a ballot. It belongs to server 6 of seven servers, in the greatest round
 abbrev pub greatest_ballot : ℕ
 greatest_ballot = 458751
 
@@ -26,13 +27,15 @@ greatest_ballot = 458751
 abbrev pub greatest_beta : ℕ
 greatest_beta = 4095
 
--- the greatest numbers of workers of a run and of turns of a worker, and how many of 64 choices may lose a message
+-- the greatest number of workers of a run
 abbrev pub most_workers : ℕ
 most_workers = 8
 
+-- the greatest number of turns of a worker
 abbrev pub most_turns : ℕ
 most_turns = 100000
 
+-- the greatest loss of a run. The loss is the number of choices, out of 64, that lose a message
 abbrev pub greatest_loss : ℕ
 greatest_loss = 32
 

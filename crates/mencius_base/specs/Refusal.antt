@@ -1,8 +1,9 @@
--- How a call is refused, and the number and name of each refusal.
+-- The result of a call that may be refused, and the number and name of each refusal.
 use Rattle.std.specs.Prelude.{◌≡◌, ℕ, List, codes, Option, Some, None, Result, Ok, Err}
 use Rattle.mencius_base.specs.declared.refusal.Refusal.{Refusal}
 use Rattle.mencius_base.specs.declared.refusal.Refusal.TheVariants.{BadServer, DuplicateCommand, InstancesFull, NoMessage, NotAddressed, LostMessage, SelfSuspect, NothingToRevoke, RoundsFull, NothingWaiting, NothingToExecute, MessagesFull, EventsFull, NoMemory}
 
+-- the number of a refusal
 abbrev pub refusal_number : Refusal → ℕ
 refusal_number BadServer = 1
 refusal_number DuplicateCommand = 2
@@ -19,6 +20,7 @@ refusal_number MessagesFull = 12
 refusal_number EventsFull = 13
 refusal_number NoMemory = 14
 
+-- the name of a refusal
 abbrev pub refusal_name : Refusal → List ℕ
 refusal_name BadServer = codes "BadServer"
 refusal_name DuplicateCommand = codes "DuplicateCommand"
@@ -35,12 +37,13 @@ refusal_name MessagesFull = codes "MessagesFull"
 refusal_name EventsFull = codes "EventsFull"
 refusal_name NoMemory = codes "NoMemory"
 
--- the cause, or `NoMemory` where there is none
+-- the cause if there is one, and otherwise `NoMemory`
 abbrev pub cause_or_memory : Option Refusal → Refusal
 cause_or_memory None = NoMemory
 cause_or_memory (Some r) = r
 
--- refused for the cause where there is one, and else only when out of memory
+-- a call succeeds only if no cause holds. If it is refused, the refusal is the cause that holds, or `NoMemory` without
+-- a cause
 abbrev pub IsRefusedFor : {A : Type 0} → Option Refusal → Result A Refusal → Type 0
 IsRefusedFor cause (Ok x) = cause ≡ None
 IsRefusedFor cause (Err r) = r ≡ cause_or_memory cause

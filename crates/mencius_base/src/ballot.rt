@@ -6,9 +6,11 @@ use crate::limits::GREATEST_ROUND;
 use crate::members::Members;
 use std::marker::Model;
 
-/// The number of an attempt at an instance. Ballot 0 is the owner's own and needs no first phase;
-/// every other ballot is `round * n + server` with a round of 1 to 65,535. (That the coordinator starts
-/// with the least ballot is Coordinated Paxos, OSDI 2008; how the others are numbered is our choice.)
+/// The number of an attempt to decide an instance.
+///
+/// Ballot 0 belongs to the owner and needs no first phase. With n servers, every other ballot is `round * n + server`,
+/// with a round of 1 to 65,535. Coordinated Paxos gives the owner the lowest ballot. The formula for all other ballots
+/// is our choice.
 #[derive(Clone, Copy, Debug, PartialEq, Eq, PartialOrd, Ord)]
 pub struct Ballot {
     number: u32,
@@ -28,11 +30,11 @@ impl Model for Ballot {
 }
 
 impl Ballot {
-    /// The ballot of an instance's owner, below every other.
+    /// The ballot of an instance's owner. It is below every other ballot.
     pub const OWNER: Ballot = Ballot { number: 0 };
 
-    /// The ballot of a round that a server leads; `None` unless the round is 1 to 65,535 and the
-    /// server is one of the members.
+    /// Returns the ballot of a round that a server leads, or `None` unless the round is 1 to 65,535 and the server is a
+    /// member.
     pub fn new(members: Members, round: u32, server: u8) -> Option<Ballot>
         ensures valid { IsSome result
             ↔ ((1 ≤ round) × (round ≤ greatest_round) × (server < members.count)) }
@@ -46,7 +48,7 @@ impl Ballot {
         })
     }
 
-    /// The number, 0 for the owner's ballot. Ballots are ordered by it.
+    /// Returns the number of the ballot, which is 0 for the owner's ballot. Ballots are ordered by it.
     pub fn number(self) -> u32
         ensures number { result ≡ self }
         ensures small { result ≤ greatest_ballot }
@@ -54,7 +56,7 @@ impl Ballot {
         self.number
     }
 
-    /// The round, 0 for the owner's ballot.
+    /// Returns the round, which is 0 for the owner's ballot.
     pub fn round(self, members: Members) -> u32
         ensures round { result ≡ round members self }
         ensures small { result ≤ greatest_ballot }
@@ -62,7 +64,7 @@ impl Ballot {
         self.number / members.count() as u32
     }
 
-    /// The server that may propose at this ballot of an instance: its owner at ballot 0.
+    /// Returns the server that may propose at this ballot of an instance. At ballot 0, it is the instance's owner.
     pub fn leader(self, members: Members, inst: u32) -> u8
         ensures leader { result ≡ leader members self inst }
         ensures member { result < members.count }

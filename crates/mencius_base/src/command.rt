@@ -7,15 +7,15 @@ use std::alloc::Global;
 use std::marker::Model;
 use thiserror::Error;
 
-/// Which command it is: the client that asks, and the client's own number for it. Each identity is
-/// submitted at most once.
+/// The identity of a command. It is the client that submits the command, and the client's own number for it. Each
+/// identity is submitted at most once.
 #[derive(Clone, Copy, Debug, PartialEq, Eq, Hash)]
 pub struct CommandId {
     pub client: u32,
     pub number: u32,
 }
 
-/// The key of a map's entry, as its bytes. Whether they make a good key is for [`Command::new`].
+/// The key of a map's entry, as its bytes. [`Command::new`] tests whether they make a valid key.
 #[derive(Clone, Debug, Drop)]
 pub struct Key {
     name: String,
@@ -31,14 +31,14 @@ impl Model for Key {
 }
 
 impl Key {
-    /// A key of this text, which it takes as it is.
+    /// Returns a key with this text, which is not tested.
     pub fn new(name: String) -> Key
         ensures { result ≡ string_bytes name }
     {
         Key { name }
     }
 
-    /// The text of the key.
+    /// Returns the text of the key.
     pub fn as_str(&self) -> &str
         ensures { result.now ≡ self.now }
     {
@@ -46,7 +46,7 @@ impl Key {
     }
 }
 
-/// The text of a map's entry, as its bytes. Whether they make a good text is for [`Command::new`].
+/// The text of a map's entry, as its bytes. [`Command::new`] tests whether they make a valid text.
 #[derive(Clone, Debug, Drop)]
 pub struct Text {
     text: String,
@@ -62,14 +62,14 @@ impl Model for Text {
 }
 
 impl Text {
-    /// A value's text, which it takes as it is.
+    /// Returns a text with these bytes, which are not tested.
     pub fn new(text: String) -> Text
         ensures { result ≡ string_bytes text }
     {
         Text { text }
     }
 
-    /// The text.
+    /// Returns the text as a string.
     pub fn as_str(&self) -> &str
         ensures { result.now ≡ self.now }
     {
@@ -77,21 +77,21 @@ impl Text {
     }
 }
 
-/// What a command does to the map.
+/// The operation of a command on the map.
 #[derive(Clone, Debug, Drop)]
 pub enum Op {
     /// Binds the key to the text. The reply is the former text of the key.
     Set { key: Key, text: Text },
-    /// Leaves the map. The reply is the present text of the key.
+    /// Leaves the map unchanged. The reply is the present text of the key.
     Get { key: Key },
     /// Removes the key. The reply is its former text.
     Del { key: Key },
-    /// Compares and sets: binds the key to the text only where its former text is exactly `held`. A
-    /// key that is not there stays so, also where `held` is empty. The reply is the former text.
+    /// Compares and sets. It binds the key to `text` only if the former text of the key is exactly `held`. A key that
+    /// is absent stays absent, even if `held` is empty. The reply is the former text.
     Cas { key: Key, held: Text, text: Text },
 }
 
-/// Why an operation makes no command.
+/// The reason why an operation does not make a command.
 #[derive(Clone, Copy, Debug, PartialEq, Eq, Error)]
 pub enum BadCommand {
     #[error("a key has a byte that is no ASCII letter, digit, `_`, `-` or `.`")]
@@ -104,8 +104,8 @@ pub enum BadCommand {
     TextLength,
 }
 
-/// What a client asks for, once. Its key has 1 to 64 bytes and each of its texts at most 256, each an
-/// ASCII letter, a digit, `_`, `-` or `.`.
+/// A client's command, which is submitted only once. Its key has 1 to 64 bytes, and each of its texts has at most 256.
+/// Each byte is an ASCII letter, a digit, `_`, `-` or `.`.
 #[derive(Clone, Debug, Drop)]
 pub struct Command {
     id: CommandId,
@@ -126,8 +126,8 @@ impl Model for Command {
 }
 
 impl Command {
-    /// The command of this identity and operation, or the first thing that is wrong with the
-    /// operation: a bad byte in the key or in a text, and then a bad length of the key or of a text.
+    /// Returns the command with this identity and operation, or the first fault of the operation. A bad byte in the key
+    /// comes first, then a bad byte in a text. A bad length of the key comes next, then a bad length of a text.
     pub fn new(id: CommandId, op: Op) -> Result<Command, BadCommand>
         ensures command { MatchResult result (λ x. x ≡ record { id = id; op = op })
             (λ e. bad_op op ≡ Some e) }
@@ -139,14 +139,14 @@ impl Command {
         }
     }
 
-    /// Which command it is.
+    /// Returns the identity of the command.
     pub fn id(&self) -> CommandId
         ensures { result ≡ self.now.id }
     {
         self.id
     }
 
-    /// What it does to the map.
+    /// Returns the operation of the command on the map.
     pub fn op(&self) -> &Op
         ensures op { result.now ≡ self.now.op }
         ensures good { bad_op result.now ≡ None }
@@ -155,7 +155,7 @@ impl Command {
     }
 }
 
-// The first thing that is wrong with an operation.
+// Returns the first fault of an operation, if it has one.
 fn find_fault(op: &Op) -> Option<BadCommand>
     ensures { result ≡ bad_op op.now }
 {
@@ -168,7 +168,7 @@ fn find_fault(op: &Op) -> Option<BadCommand>
     }
 }
 
-// Of a key and two texts. An empty text has no fault.
+// Returns the first fault of a key and two texts, if they have one. An empty text has no fault.
 fn find_fault_of_entry(key: &str, held: &str, text: &str) -> Option<BadCommand>
     ensures { result ≡ bad_entry key.now held.now text.now }
 {
@@ -187,8 +187,8 @@ fn find_fault_of_entry(key: &str, held: &str, text: &str) -> Option<BadCommand>
     None
 }
 
-/// Whether a word has only bytes that keys and texts may have: ASCII letters, digits, `_`, `-` and
-/// `.`. It says nothing of the word's length.
+/// Returns whether a word has only bytes that keys and texts may have, which are ASCII letters, digits, `_`, `-` and
+/// `.`. The length of the word does not matter.
 #[tactic(auto, unfolding(crate::specs::Command::is_name))]
 pub fn is_name(word: &str) -> bool
     ensures { result ≡ is_name word.now }

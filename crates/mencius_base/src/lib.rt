@@ -1,8 +1,7 @@
-//! The words of the protocol: the members of a cluster and its ballots, what clients ask for, what
-//! servers send, what happens to a cluster, why a call is refused, and what workers are to do.
+//! The words of the protocol, as types.
 //!
-//! Nothing here decides anything. Each type keeps its own limits, so that the crates above never
-//! test them again.
+//! They are members and ballots, commands of clients, messages of servers, events of a cluster, refusals, and plans of
+//! workers. Nothing here decides anything. Each type keeps its own limits, so the crates above never test them again.
 #![tactic(auto)]
 
 mod ballot;

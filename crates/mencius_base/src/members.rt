@@ -5,9 +5,10 @@ ghost use Rattle.mencius_base.specs.Members.{first_owned, majority, owner};
 use crate::limits::{GREATEST_BETA, MOST_SERVERS};
 use std::marker::Model;
 
-/// The servers of a cluster, numbered from 0. They own the instances in turn, round-robin, as in
-/// Mencius (Mao, Junqueira and Marzullo, OSDI 2008). Beside their number they share a constant beta, which sets how
-/// far past its own front a server's suspicion of another one looks (look-ahead revocation there).
+/// The servers of a cluster, numbered from 0, and the constant beta that they share.
+///
+/// The servers own the instances in turn, round-robin. Beta sets how far past its own front a server's suspicion of
+/// another server looks (look-ahead revocation). `docs/MODEL.md` names the source of both rules.
 #[derive(Clone, Copy, Debug, PartialEq, Eq)]
 pub struct Members {
     count: u8,
@@ -30,7 +31,7 @@ impl Model for Members {
 }
 
 impl Members {
-    /// The members of a cluster of `n` servers, with a beta of 0; `None` unless `n` is 1 to 7.
+    /// Returns the members of a cluster of `n` servers with a beta of 0, or `None` unless `n` is 1 to 7.
     pub fn new(n: u8) -> Option<Members>
         ensures valid { IsSome result ↔ ((1 ≤ n) × (n ≤ most_servers)) }
         ensures value { IfSome result (λ m. m.count ≡ n) }
@@ -39,8 +40,8 @@ impl Members {
         Members::with_beta(n, 0)
     }
 
-    /// The members of a cluster of `n` servers with this beta; `None` unless `n` is 1 to 7 and the
-    /// beta at most 4,095.
+    /// Returns the members of a cluster of `n` servers with this beta. Returns `None` unless `n` is 1 to 7 and the beta
+    /// is at most 4,095.
     pub fn with_beta(n: u8, beta: u32) -> Option<Members>
         ensures valid { IsSome result
             ↔ ((1 ≤ n) × (n ≤ most_servers) × (beta ≤ greatest_beta)) }
@@ -56,7 +57,7 @@ impl Members {
         })
     }
 
-    /// How many servers there are, 1 to 7.
+    /// Returns the number of servers, 1 to 7.
     pub fn count(self) -> u8
         ensures count { result ≡ self.count }
         ensures some { 1 ≤ result }
@@ -65,8 +66,9 @@ impl Members {
         self.count
     }
 
-    /// The constant that sets how far past its own front a server's suspicion of another one looks, 0 to 4,095: it
-    /// begins below beta past the front, and covers instances up to twice beta past it.
+    /// Returns beta, 0 to 4,095. It sets how far past its own front a server's suspicion of another server looks. A
+    /// suspicion needs an open instance below the front plus beta. It covers open instances up to the front plus twice
+    /// beta.
     pub fn beta(self) -> u32
         ensures beta { result ≡ self.beta }
         ensures small { result ≤ greatest_beta }
@@ -74,14 +76,14 @@ impl Members {
         u32::from(self.beta)
     }
 
-    /// The least number of servers that is more than half of them.
+    /// Returns the smallest number of servers that is more than half of them.
     pub fn majority(self) -> u8
         ensures { result ≡ majority self }
     {
         self.count / 2 + 1
     }
 
-    /// The server that owns an instance, the only one that may suggest a command there.
+    /// Returns the server that owns an instance. Only that server may suggest a command there.
     pub fn owner(self, inst: u32) -> u8
         ensures owner { result ≡ owner self inst }
         ensures member { result < self.count }
@@ -89,8 +91,8 @@ impl Members {
         (inst % self.count as u32) as u8
     }
 
-    /// The least instance that `server` owns, not below `from`. The server is one of the members,
-    /// and `from` is at most 4,102.
+    /// Returns the lowest instance that `server` owns and that is not below `from`. The server must be a member, and
+    /// `from` must be at most 4,102.
     #[tactic(auto, using(crate::proofs::LeastOwned::first_owned_owner, crate::proofs::LeastOwned::first_owned_least))]
     pub fn first_owned(self, server: u8, from: u32) -> u32
         requires { (server < self.count) × (from ≤ greatest_front) }
@@ -98,7 +100,7 @@ impl Members {
         ensures above { from ≤ result }
         ensures least { (i : ℕ) → from ≤ i → owner self i ≡ server → result ≤ i }
 
-        // The same by a formula, for whoever computes with it.
+        // The clause `place` gives the same instance by a formula, for proofs that compute with it.
         ensures place { result ≡ first_owned self server from }
         ensures near { result < from + self.count }
     {

@@ -4,64 +4,64 @@ use crate::ballot::Ballot;
 use crate::limits::{GREATEST_FRONT, INSTANCES};
 use crate::members::Members;
 
-/// What an instance may decide: nothing, or a command.
+/// A value that an instance may decide.
 #[derive(Clone, Copy, Debug, PartialEq, Eq)]
 pub enum Value {
-    /// No command: the instance is passed over.
+    /// No command. The instance is passed over.
     Noop,
-    /// The command of this ticket, which is its place among all submitted commands, from 0.
+    /// The command with this ticket, which is its place in the list of all submitted commands, from 0.
     Ticket(u32),
 }
 
-/// What a server accepted last at an instance.
+/// The value that a server accepted last at an instance, with its ballot.
 #[derive(Clone, Copy, Debug, PartialEq, Eq)]
 pub struct Vote {
     pub ballot: Ballot,
     pub value: Value,
 }
 
-/// What an acceptor answers to a Prepare.
+/// An acceptor's reply to a Prepare.
 #[derive(Clone, Copy, Debug, PartialEq, Eq)]
 pub enum Answer {
-    /// It will accept nothing below the ballot from now on, and reports what it accepted last.
+    /// The acceptor will accept nothing below the ballot from now on, and reports its vote, if it has one.
     Promise(Option<Vote>),
-    /// It has learned the instance's value already, and no ballot is needed any more.
+    /// The acceptor has already learned the instance's value, and no ballot is needed any more.
     Known(Value),
-    /// It promised this ballot or a greater one before, and says nothing.
+    /// The acceptor already promised or accepted this ballot or a greater one, and sends nothing.
     Silent,
 }
 
-/// What a server sends. Messages are numbered from 0 in order of sending. Accepted and Promise go to
-/// one server, all others to every server, the sender too (OSDI 2008, Coordinated Paxos, with its
-/// actions suggest, skip and revoke).
+/// A message that a server sends. Messages are numbered from 0 in order of sending. Accepted and Promise go to one
+/// server. All other messages go to every server, including the sender. All of them are messages of Coordinated Paxos,
+/// with its actions suggest, skip and revoke. `docs/MODEL.md` names the source.
 #[derive(Clone, Copy, Debug, PartialEq, Eq)]
 pub enum Message {
-    /// The owner of an instance proposes a command there, at its own ballot.
+    /// The owner of an instance proposes a command there, at the owner's ballot.
     Suggest {
         from: u8,
         inst: u32,
         ticket: u32,
     },
-    /// A server gives up its own instances from `first` up to `stop`, without `stop`.
+    /// A server gives up its own instances from `first` up to, but not including, `stop`.
     Skip {
         from: u8,
         first: u32,
         stop: u32,
     },
-    /// A server accepted what was proposed at a ballot.
+    /// A server accepted the value that was proposed at a ballot.
     Accepted {
         from: u8,
         to: u8,
         inst: u32,
         ballot: Ballot,
     },
-    /// A server begins a first phase: it asks for promises and for former votes.
+    /// A server begins a first phase. It asks for promises and for earlier votes.
     Prepare {
         from: u8,
         inst: u32,
         ballot: Ballot,
     },
-    /// A server promises to accept nothing below a ballot, and tells its vote.
+    /// A server promises to accept nothing below a ballot, and reports its vote.
     Promise {
         from: u8,
         to: u8,
@@ -69,14 +69,14 @@ pub enum Message {
         ballot: Ballot,
         vote: Option<Vote>,
     },
-    /// The leader of a ballot proposes a value there.
+    /// The leader of a ballot proposes a value at it.
     Propose {
         from: u8,
         inst: u32,
         ballot: Ballot,
         value: Value,
     },
-    /// A server tells what an instance decided.
+    /// A server reports the value that an instance decided.
     Learn {
         from: u8,
         inst: u32,
@@ -87,17 +87,19 @@ pub enum Message {
 impl Message {
     ghost use Rattle.mencius_base.specs.Message.{is_sent_to, is_for, is_within};
 
-    /// Whether the message may be delivered to a server: it goes to that server, which is one of
-    /// the members as are all servers that it names, its instance is at most 4,095 (the `stop` of a
-    /// Skip at most 4,102), and it is no Prepare, Promise or Propose at the owner's ballot.
+    /// Returns whether the message may be delivered to a server.
+    ///
+    /// The message must go to that server, and the server must be a member. All servers that the message names must be
+    /// members. Its instance, or the `first` of a Skip, must be at most 4,095, and the `stop` of a Skip at most 4,102.
+    /// A Prepare, Promise or Propose must not be at the owner's ballot.
     pub fn is_for(&self, members: Members, server: u8) -> bool
         ensures { result ≡ is_for members server self.now }
     {
         server < members.count() && self.is_sent_to(server) && self.is_within(members)
     }
 
-    /// Whether the message goes to a server: Accepted and Promise have one addressee, all others
-    /// go to every server, the sender too.
+    /// Returns whether the message goes to a server. Accepted and Promise have one addressee. All other messages go to
+    /// every server, including the sender.
     pub fn is_sent_to(&self, server: u8) -> bool
         ensures { result ≡ is_sent_to server self.now }
     {
@@ -107,7 +109,7 @@ impl Message {
         }
     }
 
-    // Whether its servers, its instance and its ballot are within their limits.
+    // Returns whether the servers, the instance and the ballot of the message are within their limits.
     fn is_within(&self, members: Members) -> bool
         ensures { result ≡ is_within members self.now }
     {

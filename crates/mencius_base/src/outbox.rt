@@ -7,8 +7,8 @@ use crate::refusal::Refusal;
 use std::alloc::Global;
 use std::marker::Model;
 
-/// Messages that were sent, in order, up to a greatest number. Room for more is reserved before it is
-/// used, so that a caller which reserved it can no longer fail.
+/// Messages that were sent, in order, up to a limit on their number. Room for more messages is reserved before it is
+/// used. A caller that has reserved room can no longer fail.
 #[derive(Drop)]
 pub struct Outbox {
     messages: Vec<Message>,
@@ -32,7 +32,7 @@ impl Model for Outbox {
 }
 
 impl Outbox {
-    /// No messages yet, and at most `limit` ever. It takes no memory.
+    /// Returns an outbox without messages, which may hold at most `limit` of them. It does not allocate memory.
     pub fn new(alloc: Global, limit: u32) -> Outbox
         ensures messages { result.messages ≡ [] }
         ensures limit { result.limit ≡ limit }
@@ -44,14 +44,14 @@ impl Outbox {
         }
     }
 
-    /// The messages, the oldest first.
+    /// Returns the messages, the oldest first.
     pub fn messages(&self) -> &[Message]
         ensures { result.now ≡ self.now.messages }
     {
         self.messages.as_slice()
     }
 
-    /// How many messages there are.
+    /// Returns the number of messages.
     pub fn len(&self) -> u32
         ensures count { result ≡ length self.now.messages }
         ensures few { result ≤ self.now.limit }
@@ -61,29 +61,29 @@ impl Outbox {
         self.messages.len() as u32
     }
 
-    /// Whether there are none.
+    /// Returns whether the outbox has no messages.
     pub fn is_empty(&self) -> bool
         ensures { result ≡ (length self.now.messages == 0) }
     {
         self.messages.is_empty()
     }
 
-    /// How many messages there may be.
+    /// Returns the greatest number of messages that the outbox may hold.
     pub fn limit(&self) -> u32
         ensures { result ≡ self.now.limit }
     {
         self.limit
     }
 
-    /// How many messages can be pushed before room has to be reserved again.
+    /// Returns the number of messages that can be pushed before room must be reserved again.
     pub fn room(&self) -> u32
         ensures { result ≡ self.now.room }
     {
         self.messages.capacity().min(self.limit as usize) as u32 - self.messages.len() as u32
     }
 
-    /// Makes room for `extra` more messages. It is refused with `MessagesFull` where they would pass
-    /// the limit, and else with `NoMemory` alone; the messages stay as they are either way.
+    /// Makes room for `extra` more messages. It fails with `MessagesFull` if they would exceed the limit, and otherwise
+    /// only with `NoMemory`. The messages stay as they are in both cases.
     pub fn reserve(&mut self, extra: u32) -> Result<(), Refusal>
         ensures messages { self.new.messages ≡ self.old.messages }
         ensures limit { self.new.limit ≡ self.old.limit }
@@ -98,7 +98,7 @@ impl Outbox {
         Ok(())
     }
 
-    /// Adds a message at the end. Room for it was reserved before.
+    /// Adds a message at the end. The caller must have reserved room for it.
     pub fn push(&mut self, message: Message)
         requires { 0 < self.old.room }
         ensures messages { self.new.messages ≡ self.old.messages ++ message ∷ [] }

@@ -6,12 +6,12 @@ use crate::command::Command;
 use crate::limits::{GREATEST_LOSS, MOST_SERVERS, MOST_TURNS, MOST_WORKERS};
 use std::marker::Model;
 
-/// What the workers of a run are to do: how many there are, the seed of their choices, how many
-/// turns each one takes, how many of 64 choices lose a message, and the commands that they submit,
-/// a list for each server.
+/// The work of the workers of a run. A plan has the number of workers, the seed of their choices, and the number of
+/// turns of each worker. It also has the loss, and a list of commands for each server. The loss is the number of
+/// choices, out of 64, that lose a message.
 ///
-/// Worker w submits the commands of the servers s with s mod workers = w: the first command of each
-/// of these lists, by rising server, then the second of each, and so on.
+/// Worker w submits the commands of the servers s with s mod workers = w. First comes the first command of each of
+/// these lists, in rising order of servers, then the second command of each list, and so on.
 #[derive(Debug, Drop)]
 pub struct Plan {
     workers: u8,
@@ -34,8 +34,8 @@ impl Model for Plan {
 }
 
 impl Plan {
-    /// The plan of these numbers and lists. There are 1 to 8 workers, at most 100,000 turns, a loss
-    /// of at most 32 and at most 7 lists: `None` outside these ranges. It takes no memory.
+    /// Returns the plan of these numbers and lists, or `None` if one of them is out of range. A plan has 1 to 8
+    /// workers, at most 100,000 turns, a loss of at most 32, and at most 7 lists. The call does not allocate memory.
     pub fn new(
         workers: u8,
         seed: u64,
@@ -64,7 +64,7 @@ impl Plan {
         })
     }
 
-    /// How many workers there are, 1 to 8.
+    /// Returns the number of workers, 1 to 8.
     pub fn workers(&self) -> u8
         ensures workers { result ≡ self.now.workers }
         ensures some { 1 ≤ result }
@@ -73,14 +73,14 @@ impl Plan {
         self.workers
     }
 
-    /// The seed of all choices.
+    /// Returns the seed of all choices.
     pub fn seed(&self) -> u64
         ensures { result ≡ self.now.seed }
     {
         self.seed
     }
 
-    /// How many turns each worker takes, at most 100,000.
+    /// Returns the number of turns that each worker takes, at most 100,000.
     pub fn turns(&self) -> u32
         ensures turns { result ≡ self.now.turns }
         ensures few { result ≤ most_turns }
@@ -88,14 +88,14 @@ impl Plan {
         self.turns
     }
 
-    /// How many of 64 choices lose a message, at most 32.
+    /// Returns the number of choices, out of 64, that lose a message. It is at most 32.
     pub fn loss(&self) -> u8
         ensures { result ≡ self.now.loss }
     {
         self.loss
     }
 
-    /// The commands that the workers submit, a list for each server, at most 7.
+    /// Returns the commands that the workers submit. There is a list for each server, and at most 7 lists.
     pub fn commands(&self) -> &[Vec<Command>]
         ensures lists { map (λ l. l.items) result.now ≡ self.now.commands }
         ensures few { length result.now ≤ most_servers }

@@ -5,7 +5,7 @@ ghost use Rattle.mencius_base.specs.declared.refusal.Refusal.TheVariants as refu
 use std::alloc::{AllocError, AllocFailed};
 use thiserror::Error;
 
-/// Why an event or a call is refused. What was refused has changed nothing.
+/// The reason why an event or a call is refused. A refused event or call has changed nothing.
 #[derive(Clone, Copy, Debug, PartialEq, Eq, Error)]
 pub enum Refusal {
     #[error("there is no server of that number")]
@@ -39,7 +39,7 @@ pub enum Refusal {
 }
 
 impl Refusal {
-    /// The number of the refusal, 1 to 14.
+    /// Returns the number of the refusal, 1 to 14.
     pub fn number(&self) -> u8
         ensures { result ≡ refusal_number self.now }
     {
@@ -61,7 +61,7 @@ impl Refusal {
         }
     }
 
-    /// The name of the refusal, as reports print it.
+    /// Returns the name of the refusal, as reports print it.
     pub fn name(&self) -> &'static str
         ensures { result.now ≡ refusal_name self.now }
     {
@@ -83,8 +83,8 @@ impl Refusal {
         }
     }
 
-    /// The refusal, where it is one of the event itself: that memory ran out says nothing of an event, and so
-    /// ends what asked for it.
+    /// Returns the refusal if its reason is in the event itself, and fails with `NoMemory` otherwise. Running out of
+    /// memory says nothing about an event, so it ends the call that asked for memory.
     pub fn memory_apart(self) -> Result<Refusal, NoMemory>
         ensures { MatchResult result (λ other. (other ≡ self) × (self ≢ refusal.NoMemory))
             (λ _. self ≡ refusal.NoMemory) }
@@ -96,7 +96,7 @@ impl Refusal {
     }
 }
 
-/// Out of memory, where nothing else can go wrong.
+/// The error of a call that can only fail if memory runs out.
 #[derive(Clone, Copy, Debug, PartialEq, Eq, Error)]
 #[error("memory ran out")]
 pub struct NoMemory;

@@ -1,4 +1,4 @@
--- What every board keeps, over the fields of a board.
+-- The calls of a board maintain its invariant.
 use Rattle.std.proofs.Common.{◌≡◌, ◌≤◌, ℕ, List, [], ◌++◌, length, Option, Some, take, sym, ap, subst, ◌∙◌, arith}
 use Rattle.std.proofs.lemmas.List.{append-nil, take-append-le}
 use mathlib.Core.List.{IsPrefix}
@@ -11,7 +11,7 @@ use Rattle.mencius_board.specs.Pending.{AreHanded, added_commands}
 use Rattle.mencius_board.specs.Boards.{IsBoardInside, IsSteady, longest_of}
 use Rattle.mencius_model.proofs.trace.Prefixes.{prefix_empty, prefix_trans, prefix_length, take_begins}
 
--- the first commands of a list are the first of each of which it is a prefix
+-- commands that were handed over from a list were also handed over from each list that begins with it
 handed_grows : (shown : List Command) (os : List Operation) (n : ℕ) (xs ys : List Command) → IsPrefix xs ys
     → AreHanded shown os n xs → AreHanded shown os n ys
 handed_grows shown os n xs ys prefix h = record {
@@ -19,7 +19,7 @@ handed_grows shown os n xs ys prefix h = record {
   first = h.first ∙ (sym (take-append-le n xs prefix.0 h.many) ∙ ap (λ l. take n l) prefix.1);
 }
 
--- a board stays sound where its cluster's longest history grows
+-- the invariant still holds if the longest history of the board's cluster grows
 pub sound_grows : (x y : ClusterState) (log opening : MarkState) (seen : Option MarkState) (shown : VersionState)
     (os : List Operation) (n : ℕ) → IsSteady y × IsPrefix (longest_of x) (longest_of y)
     → IsBoardInside x log opening seen shown os n → IsBoardInside y log opening seen shown os n
@@ -32,17 +32,17 @@ sound_grows x y log opening seen shown os n also s = record {
   seen_is = s.seen_is;
 }
 
--- what is shown and what is pending are a prefix of the longest history
+-- the shown list, followed by the pending commands, is a prefix of the longest history
 pub shown_first : (x : ClusterState) (shown : List Command) (os : List Operation) (n : ℕ)
     → AreHanded shown os n (longest_of x) → IsPrefix (shown ++ added_commands os) (longest_of x)
 shown_first x shown os n h = subst (λ (l : List Command). IsPrefix l (longest_of x)) (sym h.first)
     (take_begins n (longest_of x))
 
--- a list begins with all of itself
+-- equal lists are prefixes of each other
 pub all_begins : (xs ys : List Command) → xs ≡ ys → IsPrefix xs ys
 all_begins xs ys same = ([], append-nil xs ∙ same)
 
--- nothing is shown yet
+-- the invariant holds for a new board, which shows the empty list
 pub sound_new : (x : ClusterState) (log opening : MarkState) (seen : Option MarkState) (shown : VersionState)
     (os : List Operation) → IsSteady x → log.log ≡ [] → opening ≡ log
     → book_of seen ≡ Some opening.book → shown ≡ record { mark = opening; list = opening.log } → added_commands os ≡ []
@@ -64,7 +64,7 @@ sound_new x log opening seen shown os steady empty same seen_is is none =
       seen_is = seen_is ∙ ap (λ (m : MarkState). Some m.book) same;
     }
 
--- all of the longest history is shown
+-- the invariant holds once the whole longest history is shown
 pub sound_shown : (x : ClusterState) (log opening mark : MarkState) (seen : Option MarkState) (shown : VersionState)
     (os : List Operation) (n : ℕ) (list was : List Command) (waiting : List Operation) → IsSteady x
     → opening ≡ mark_of log.book [] → mark ≡ log → log.log ≡ list → list ≡ longest_of x → AreHanded was waiting n list

@@ -1,4 +1,4 @@
--- What a step leaves of what a board relies on.
+-- A step of the cluster maintains the facts that a board relies on.
 use Rattle.std.proofs.Common.{◌≡◌, ◌≤◌, List, [], ◌∷◌, ◌++◌, Result, Ok, Err, IfOk, OnErr, refl, sym, subst}
 use mathlib.Core.List.{IsPrefix}
 use Rattle.mencius_base.specs.declared.event.Event.{Event}
@@ -11,7 +11,7 @@ use Rattle.mencius_cluster.specs.State.{ClusterState, IsStepped, trace_of}
 use Rattle.mencius_board.specs.Boards.{IsSteady, longest_of}
 use Rattle.mencius_model.proofs.trace.Prefixes.{prefix_self}
 
--- what a board relies on holds of the cluster that an event leaves
+-- the facts that a board relies on hold for the cluster after an accepted event
 steady_next : (x y : ClusterState) (e : Event) (f : Effect) → IsSteady x
     → IsStepped x y e f → IsSteady y
 steady_next x y e f s step = record {
@@ -20,7 +20,7 @@ steady_next x y e f s step = record {
   grows = s.grows;
 }
 
--- and the former longest history is a prefix of its longest one
+-- the longest history before an accepted event is a prefix of the longest history after it
 longest_grows : (x y : ClusterState) (e : Event) (f : Effect) → IsSteady x
     → IsStepped x y e f → IsPrefix (longest_of x) (longest_of y)
 unfolding longest_of
@@ -33,7 +33,7 @@ longest_grows x y e f s step =
     subst (λ (m : Membership). IsPrefix (longest_commands x.members (trace_of x)) (longest_commands m (trace_of y)))
     (sym step.members) more
 
--- an event is accepted, or nothing changes
+-- after any event, accepted or refused, a board can rely on its cluster, and the longest history has not lost a command
 pub answer_grows : (x y : ClusterState) (e : Event) (r : Result Effect Refusal) → IsSteady x
     → IfOk r (IsStepped x y e) → OnErr r (y ≡ x)
     → IsSteady y × IsPrefix (longest_of x) (longest_of y)

@@ -1,4 +1,4 @@
--- The steps of a log.
+-- The proofs about the steps of a log.
 pub mod LogEnds
 pub mod LogExchange
 pub mod LogSteps

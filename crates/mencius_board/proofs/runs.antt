@@ -1,4 +1,4 @@
--- Workers and their turns.
+-- The proofs about workers and their turns.
 pub mod WorkerTurns
 pub mod WorkerEnds
 pub mod JoinedWorkers

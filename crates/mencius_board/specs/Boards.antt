@@ -1,4 +1,4 @@
--- A board, as contracts see it, and what its type keeps.
+-- Boards as contracts see them, and the invariant of their type.
 use Rattle.std.specs.Prelude.{ℕ, ◌≡◌, ◌≤◌, List, [], Option, Some, Ok}
 use mathlib.Core.List.{IsPrefix}
 use Rattle.mencius_base.specs.declared.command.Command.{Command}
@@ -11,8 +11,8 @@ use Rattle.mencius_board.specs.Shown.{book_of}
 use Rattle.mencius_board.specs.declared.version.Operation.{Operation}
 use Rattle.mencius_board.specs.Pending.{AreHanded, IsMarked}
 
--- which board it is, its cluster, the list that is shown, what is to be shown next, and how many readers may still be
--- made
+-- the identity of a board, its cluster, the shown list of commands, the pending commands, and the number of readers
+-- that can still be made
 pub record BoardState : Type 0 where
   pub book : Origin
   pub cluster : ClusterState
@@ -20,7 +20,7 @@ pub record BoardState : Type 0 where
   pub pending : List Command
   pub places : ℕ
 
--- a board on which nothing is shown yet
+-- a board for `readers` readers, which shows the empty list and has no pending commands
 abbrev pub new_board : Origin → ClusterState → ℕ → BoardState
 new_board book x readers = record { book = book; cluster = x; shown = []; pending = []; places = readers }
 
@@ -28,15 +28,16 @@ new_board book x readers = record { book = book; cluster = x; shown = []; pendin
 unfoldable pub longest_of : ClusterState → List Command
 longest_of x = longest_commands x.members (trace_of x)
 
--- what a board relies on of its cluster: there are servers, the journal replays, and the longest history only grows
+-- the cluster of a board has at least one server, its journal replays, and the longest history only grows
 pub record IsSteady (x : ClusterState) : Type 0 where
   pub some_server : 1 ≤ x.members.count
   pub replays : replay x.members x.journal ≡ Ok (trace_of x)
   pub grows : Grows longest_commands
 
--- what every board keeps: what is shown and then what is pending is a prefix of the longest history. The log has the
--- commands that were ever to be shown, the opening is its mark when it was empty, and n commands were handed to the
--- writer
+-- the invariant of a board, whose cluster meets `IsSteady`. The shown list, followed by the commands of the pending
+-- operations, is the first n commands of the longest history. The log has all commands that were ever meant to be
+-- shown, and is also a prefix of that history. The shown value has a mark of its whole list, `opening` is the empty
+-- mark, and `seen` is the mark that the writer has seen. All three marks belong to the log
 pub record IsBoardInside (cluster : ClusterState) (log opening : MarkState) (seen : Option MarkState)
     (shown : VersionState)
     (pending : List Operation) (n : ℕ) : Type 0 where

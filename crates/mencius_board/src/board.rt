@@ -21,24 +21,24 @@ use std::alloc::Global;
 use std::marker::Model;
 use std::sync::Wait;
 
-/// A cluster that threads step one at a time, and what of its longest history readers are shown.
+/// A cluster that threads step one at a time, together with the part of its longest history that readers can see.
 ///
-/// Contracts see which board it is, the cluster, the list of commands that is shown, what is to be
-/// shown next, and how many readers may still be made. The type keeps that the two lists, one after
-/// the other, are a prefix of the longest history; so that holds whenever a lock on a board is got, whoever
-/// had it before.
+/// Contracts see the identity of the board, the cluster, the shown list of commands, the pending commands, and the
+/// number of readers that can still be made. The type ensures that the shown list, followed by the pending commands, is
+/// a prefix of the longest history. So a thread that gets the lock on a board can rely on this, no matter which thread
+/// held the lock before.
 ///
-/// A board cannot be dropped: it is used up by [`Board::end`].
+/// A board cannot be dropped. [`Board::end`] consumes it.
 pub struct Board {
     cluster: Cluster,
-    // The commands that were ever to be shown.
+    // All commands that the board was ever meant to show.
     log: ShownLog,
-    // The mark of the log when it was empty.
+    // The mark of the log while it was still empty.
     opening: Mark,
-    // So many readers may still be made.
+    // The number of readers that can still be made.
     places: u8,
     writer: Showing,
-    // So many commands were handed to the writer.
+    // The number of commands that were handed to the writer.
     handed: usize,
 }
 
@@ -63,10 +63,10 @@ impl Model for Board {
 }
 
 impl Board {
-    /// A board over a cluster, for 1 to 16 readers, on which nothing is shown yet; or `NoMemory`.
+    /// Makes a board over a cluster, for 1 to 16 readers. The board shows the empty list. The only fault is `NoMemory`.
     ///
-    /// It takes `Wait` although there is nobody to wait for: the opening list is published, and
-    /// publishing takes it.
+    /// The call needs `Wait` because it publishes that empty list, and publishing needs it. No reader exists yet, so
+    /// the call waits for nobody.
     pub fn new<R: Wait>(
         rt: &R,
         alloc: Global,
@@ -77,9 +77,9 @@ impl Board {
         ensures board { IfOk result (λ x. x ≡ new_board x.book cluster readers) }
         ensures err { IfErr result (λ f. f ≡ NoMemory) }
     {
-        // What every cluster promises: the board's type keeps it from here on.
+        // The next three calls promise facts about every cluster. The board's type maintains them from here on.
         laws::growth(); // proof: histories only grow
-        cluster.servers();
+        cluster.servers(); // proof: 1 to 7 servers
         cluster.replays(); // proof: the journal replays to the trace
         let log = ShownLog::new();
         let opening = log.mark();
@@ -94,7 +94,8 @@ impl Board {
         })
     }
 
-    /// Takes one event, as [`Cluster::step`] does, with its refusals. What is shown stays.
+    /// Steps the cluster through one event, as [`Cluster::step`] does, with the same refusals. Nothing on the board
+    /// changes except the cluster, and a refused event changes nothing.
     pub fn step(&mut self, event: Event) -> Result<Effect, Refusal>
         ensures effect { IfOk result (IsStepped self.old.cluster self.new.cluster event) }
         ensures refusal { IfErr result (IsRefusal self.old.cluster event) }
@@ -104,7 +105,7 @@ impl Board {
         self.cluster.step(event)
     }
 
-    /// The cluster. What is shown, and then what is to be shown next, is a prefix of its longest history.
+    /// Returns the cluster. The shown list, followed by the pending commands, is a prefix of its longest history.
     pub fn cluster(&self) -> &Cluster
         ensures cluster { result.now ≡ self.now.cluster }
         ensures begins { IsPrefix (self.now.shown ++ self.now.pending) (longest_of self.now.cluster) }
@@ -112,12 +113,12 @@ impl Board {
         &self.cluster
     }
 
-    /// Shows the longest history, all at once, and answers what is shown. It may wait for readers
-    /// to leave what was shown before. Its work is the new commands, and one copy for the News.
+    /// Shows the longest history to readers, all at once, and returns it as News. The call may wait for readers to
+    /// leave the list that was shown before. Its work is the new commands, plus one copy of the history for the News.
     ///
-    /// `NoMemory` comes where a copy is refused, `ShowRefused` where `left_right` refuses to take a
-    /// command or to publish, whatever the cause. Cluster and what is shown then stay; some of the new
-    /// commands may be handed over already, and the next call shows them.
+    /// Fails with `NoMemory` if memory for a copy is refused. Fails with `ShowRefused` if `left_right` refuses to take
+    /// a command or to publish, for any reason. The cluster and the shown list then stay as they were. Some of the new
+    /// commands may already be handed over, and the next call shows them.
     #[tactic(auto, using(crate::proofs::BoardInvariant::all_begins))]
     pub fn show<R: Wait>(&mut self, rt: &R, alloc: Global) -> Result<News, BoardFault>
         ensures shown { OnOk result (self.new
@@ -138,8 +139,10 @@ impl Board {
         Ok(News::new(mark, list))
     }
 
-    /// Makes a reader, whose floor is empty; `NoReader` once as many were made as `new` was told, or
-    /// where `left_right` gives none.
+    /// Makes a reader with an empty floor.
+    ///
+    /// Fails with `NoReader` once the number of readers that was passed to `new` has been made. It also fails with
+    /// `NoReader` if `left_right` gives no reader.
     pub fn reader(&mut self) -> Result<Reader, BoardFault>
         ensures some { OnOk result (0 < self.old.places) }
         ensures ok { OnOk result (self.new ≡ record self.old { places = self.old.places - 1 }) }
@@ -158,9 +161,10 @@ impl Board {
         Ok(Reader::new(home, self.opening.again()))
     }
 
-    /// Promises of a reader of this board that its floor is a prefix of the longest history, and so is
-    /// each list that it answered from. It changes nothing and takes no memory; its work is one
-    /// exchange of a word.
+    /// Promises that the floor of this reader is a prefix of the longest history. So each list that the reader has used
+    /// for a lookup is also a prefix of it. The reader must be one of this board.
+    ///
+    /// The call changes nothing and does not allocate. Its work is one exchange of a word.
     pub fn bounds(&mut self, reader: &Reader)
         requires { reader.now.book ≡ self.old.book }
         ensures begins { IsPrefix reader.now.log (longest_of self.old.cluster) }
@@ -169,8 +173,8 @@ impl Board {
         self.log.covers(reader.floor());
     }
 
-    /// Uses the board up, and gives its cluster. It may wait for readers to leave; lookups that
-    /// enter later are refused.
+    /// Consumes the board and returns its cluster. The call may wait for readers to leave. Lookups that enter later are
+    /// refused.
     pub fn end<R: Wait>(self, rt: &R) -> Cluster
         ensures { result ≡ self.cluster }
     {

@@ -5,17 +5,17 @@ use mencius_base::NoMemory;
 use std::alloc::AllocError;
 use thiserror::Error;
 
-/// Why a board, a reader or the workers give up.
+/// The reason why a call of a board, of a reader or of the workers failed.
 #[derive(Clone, Copy, Debug, PartialEq, Eq, Error)]
 pub enum BoardFault {
-    /// A growth was refused.
+    /// A request for memory was refused.
     #[error("memory ran out")]
     NoMemory,
-    /// All readers that the board has places for were made, or a reader could not enter, as where
-    /// the board is gone.
+    /// The board has no place left for another reader, or a reader could not enter, for example because the board is
+    /// gone.
     #[error("there is no place for a reader, or the board is gone")]
     NoReader,
-    /// What was to be shown could not be handed over or published.
+    /// Commands could not be handed over or published.
     #[error("what was to be shown was refused")]
     ShowRefused,
     /// A worker's thread could not be started.
@@ -24,7 +24,7 @@ pub enum BoardFault {
 }
 
 impl BoardFault {
-    /// The number of the fault, 14 to 17. No two have the same.
+    /// Returns the number of the fault, 14 to 17. No two faults have the same number.
     pub fn number(&self) -> u8
         ensures { result ≡ board_fault_number self.now }
     {
@@ -36,7 +36,7 @@ impl BoardFault {
         }
     }
 
-    /// The name of the fault, which is its variant's.
+    /// Returns the name of the fault, which is the name of its variant.
     pub fn name(&self) -> &'static str
         ensures { result.now ≡ board_fault_name self.now }
     {

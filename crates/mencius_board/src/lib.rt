@@ -1,14 +1,13 @@
-//! The board: a cluster that threads step one at a time, and readers that look up keys beside them
-//! without a lock.
+//! A board is a cluster that threads step one at a time, while readers look up keys without a lock.
 //!
-//! A [`Board`] holds the cluster. Whoever has it steps it, one event after the other; threads share
-//! it under a `Mutex`. [`Board::show`] shows readers the commands of the longest history at once.
-//! A [`Reader`] looks up a key in the map that these commands make, and never waits. Beside its
-//! answers it keeps a floor, the longest list that it saw or was told of by a [`News`]: no later
-//! answer comes from a shorter list.
+//! A [`Board`] holds the cluster, and steps it through one event after another. Threads share the board under a
+//! `Mutex`. [`Board::show`] shows the commands of the longest history to readers, all at once.
 //!
-//! [`run_workers`] lets threads step a board, each by the words of a random generator of its own:
-//! [`pick`] says which event three words make.
+//! A [`Reader`] looks up a key in the map that these commands produce, and never waits. It also keeps a floor, which is
+//! the longest list that it saw or learned from a [`News`]. No later lookup uses a list that is shorter than the floor.
+//!
+//! [`run_workers`] lets threads step a board. Each thread has its own random generator, and [`pick`] turns three random
+//! words into an event.
 #![tactic(auto)]
 
 mod board;

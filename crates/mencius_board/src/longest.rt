@@ -8,7 +8,7 @@ use mencius_base::{Command, NoMemory};
 use mencius_cluster::{Cluster, laws};
 use std::alloc::Global;
 
-/// A copy of the commands of the longest history, in order.
+/// Returns a copy of the commands of the longest history, in order.
 pub fn copy_longest(alloc: Global, cluster: &Cluster) -> Result<Vec<Command>, NoMemory>
     ensures list { IfOk result (λ x. x.items ≡ longest_of cluster.now) }
     ensures limit { IfOk result (λ x. length x.items < 2 ^ 32) }
@@ -25,7 +25,7 @@ pub fn copy_longest(alloc: Global, cluster: &Cluster) -> Result<Vec<Command>, No
     Ok(list)
 }
 
-// Adds a copy of the command of a ticket.
+// Appends a copy of the command that has this ticket.
 fn push_command(list: &mut Vec<Command>, cluster: &Cluster, ticket: u32) -> Result<(), NoMemory>
     requires { ticket < length (submitted_commands (trace_of cluster.now)) }
     ensures { OnOk result (list.new.items

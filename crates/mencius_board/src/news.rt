@@ -4,9 +4,10 @@ use crate::shown_log::Mark;
 use mencius_base::Command;
 use std::marker::Model;
 
-/// What one [`Board::show`] showed. A reader that learns it answers from no shorter list later.
+/// The list that one call of [`Board::show`] showed. Once a reader has learned it, no lookup of that reader uses a
+/// shorter list.
 ///
-/// Contracts see which board showed it, and the list.
+/// Contracts see which board showed the list, and the list itself.
 ///
 /// [`Board::show`]: crate::Board::show
 #[derive(Drop)]
@@ -37,14 +38,14 @@ impl News {
         News { mark, list, count }
     }
 
-    /// How many commands are shown.
+    /// Returns the number of commands in the list.
     pub fn count(&self) -> u32
         ensures { result ≡ length self.now.log }
     {
         self.count
     }
 
-    /// The commands that are shown, in order.
+    /// Returns the commands of the list, in order.
     pub fn commands(&self) -> &[Command]
         ensures { result.now ≡ self.now.log }
     {

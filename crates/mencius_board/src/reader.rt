@@ -16,11 +16,11 @@ use mencius_base::MOST_TEXT_BYTES;
 use std::alloc::Global;
 use std::marker::Model;
 
-/// Looks up keys in what a board shows, beside whoever steps the board. It takes no lock and never
-/// waits, and may be moved into a thread of its own.
+/// Looks up keys in the list that a board shows, while other threads step the board. A reader takes no lock and never
+/// waits, and may be moved into its own thread.
 ///
-/// Contracts see which board it reads, and its floor, the longest list that it saw or was told of:
-/// it is empty at first, and only grows.
+/// Contracts see which board it reads, and its floor. The floor is the longest list that the reader saw or learned from
+/// `News`. It is empty at first, and only grows.
 #[derive(Drop)]
 pub struct Reader {
     home: Home,
@@ -56,11 +56,11 @@ impl Reader {
         }
     }
 
-    /// Enters what is shown, and answers the text at the key, if there is one, in the map that the
-    /// commands shown make. The old floor is a prefix of their list, which becomes the floor.
+    /// Returns the text that the shown commands leave at the key, or `None` if the key has no text. The old floor is a
+    /// prefix of the shown list, and the shown list becomes the new floor.
     ///
-    /// `NoMemory` comes where room for the answer is refused, `NoReader` where the reader can't enter,
-    /// as where the board is gone. The floor then stays.
+    /// Fails with `NoMemory` if room for the text is refused. Fails with `NoReader` if the reader cannot enter, for
+    /// example because the board is gone. The floor then stays as it was.
     pub fn lookup(&mut self, alloc: Global, key: &str) -> Result<Option<String>, BoardFault>
         ensures board { self.new.book ≡ self.old.book }
         ensures grows { OnOk result (IsPrefix self.old.log self.new.log) }
@@ -69,7 +69,7 @@ impl Reader {
         ensures err { OnErr result (self.new ≡ self.old) }
         ensures fault { IfErr result IsLookupFault }
     {
-        // The longest text that a command sets.
+        // This is room for the longest text that a command can set.
         let room = String::with_capacity(alloc, MOST_TEXT_BYTES)?;
         let least = self.count;
         let found = replace_with(&mut self.home, room, |home, room| {
@@ -81,8 +81,9 @@ impl Reader {
         Ok(found.text)
     }
 
-    /// Takes in what a `show` of the reader's own board showed, whose News it uses up. Of the floor
-    /// and that list one is a prefix of the other, and the floor becomes the longer. It takes no memory.
+    /// Learns the list of this News, which must come from the reader's own board. Either that list is a prefix of the
+    /// floor, or the floor is a prefix of that list. The longer of them becomes the floor. The call consumes the News
+    /// and does not allocate.
     pub fn learn(&mut self, news: News)
         requires { news.book ≡ self.old.book }
         ensures comparable { IsComparable self.old.log news.log }
@@ -105,7 +106,7 @@ impl Reader {
         &self.floor
     }
 
-    /// How many commands the floor has: the longest list that the reader saw or was told of.
+    /// Returns the number of commands in the floor, the longest list that the reader saw or learned.
     pub fn count(&self) -> u32
         ensures { result ≡ length self.now.log }
     {

@@ -1,4 +1,4 @@
-//! Lookups by a reader that is told of News, or asked together with its board.
+//! Lookups that use a reader together with News of its board, or together with the board itself.
 
 ghost use Rattle.std.specs.Prelude.{◌≡◌, ◌⊎◌, IfErr, IfOk, OnOk};
 ghost use mathlib.Core.List.{IsPrefix};
@@ -13,15 +13,16 @@ use crate::reader::Reader;
 use std::alloc::Global;
 use std::sync::Wait;
 
-/// What a lookup found, and how many commands the list has whose map it was found in.
+/// The result of a lookup. `text` is the text at the key, if there is one. `count` is the number of commands in the
+/// list that the lookup used.
 #[derive(Debug, Drop)]
 pub struct Reading {
     pub text: Option<String>,
     pub count: u32,
 }
 
-/// Tells a reader News of its own board, and looks a key up. The answer comes from a list that begins
-/// with the News's list. It takes no lock and never waits.
+/// Lets a reader learn News of its own board, and looks up a key. The lookup uses a list that begins with the list of
+/// the News. The call takes no lock and never waits.
 pub fn look_up_told(
     alloc: Global,
     reader: &mut Reader,
@@ -38,8 +39,8 @@ pub fn look_up_told(
     look_up(alloc, reader, key)
 }
 
-/// Looks a key up and asks the reader's own board. The answer is from a prefix of its longest history,
-/// and the list of the answer before is a prefix of that one. The board stays as it is.
+/// Looks up a key with a reader of this board. The lookup uses a prefix of the board's longest history. The reader's
+/// former floor is a prefix of the list that the lookup uses. The board does not change.
 pub fn look_up_within(
     alloc: Global,
     board: &mut Board,
@@ -54,12 +55,12 @@ pub fn look_up_within(
     ensures fault { IfErr result IsLookupFault }
 {
     let reading = look_up(alloc, reader, key);
-    // Called for its promise alone.
+    // This call is made only for the promise in its contract.
     board.bounds(reader);
     reading
 }
 
-/// Shows a board's longest history, tells a reader of it, and looks a key up. The answer is from just
+/// Shows a board's longest history, lets a reader of the board learn it, and looks up a key. The lookup uses exactly
 /// that history.
 pub fn look_up_shown<R: Wait>(
     rt: &R,
@@ -77,12 +78,12 @@ pub fn look_up_shown<R: Wait>(
 {
     let news = board.show(rt, alloc)?;
     let reading = look_up_told(alloc, reader, news, key);
-    // Called for its promise alone.
+    // This call is made only for the promise in its contract.
     board.bounds(reader);
     reading
 }
 
-// Looks a key up.
+// Looks up a key, and counts the commands of the list that the lookup used.
 fn look_up(alloc: Global, reader: &mut Reader, key: &str) -> Result<Reading, BoardFault>
     ensures board { reader.new.book ≡ reader.old.book }
     ensures grows { IsPrefix reader.old.log reader.new.log }

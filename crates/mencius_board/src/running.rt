@@ -1,4 +1,4 @@
-//! A run: all turns of a plan's workers on one board, each worker in a thread of its own.
+//! A run makes the workers of a plan take all of their turns on one board. Each worker has its own thread.
 ghost use Rattle.std.specs.Prelude.{◌≡◌, ◌<◌, map, replicate, IfErr, IfOk, Ok, OnOk};
 ghost use Rattle.mencius_base.specs.Members.{numbers_below};
 ghost use Rattle.mencius_board.specs.Boards.{BoardState};
@@ -18,9 +18,9 @@ use std::sync::{Mutex, Wait};
 use std::thread;
 use std::thread::{Scope, Threads};
 
-/// What a run is of: a plan, and the board as it was before the first turn.
+/// The plan of a run, and the board as it was before the first turn.
 ///
-/// Of a value under a lock nothing is known but what its type keeps, so the type has to know both.
+/// After taking a lock, a proof knows only the type's invariant. So the type must know both.
 pub trait Job {
     ghost plan: { PlanState };
 
@@ -35,17 +35,17 @@ impl Job for Brand {
     ghost first = { no_board };
 }
 
-// How many turns a worker took, or the fault that it ended at.
+// The number of turns that a worker took, or the fault at which it ended.
 type Way = Result<u32, BoardFault>;
 
-// What lies under the lock of a run. Its type keeps that the board is one that turns of the plan brought
-// here, and that these turns brought each worker as far as is noted.
+// The value under the lock of a run. Its type ensures that turns of the plan have brought the board to this state. The
+// same turns have brought each worker as far as its way says.
 struct Run<'p, J: Job> {
     board: Board,
-    // By worker number: the choices, and how far the worker came.
+    // The choosers and the ways of the workers, by worker number.
     choosers: Vec<Chooser<'p>>,
     ways: Vec<Way>,
-    // So many turns each worker is to take.
+    // The number of turns that each worker must take.
     turns: u32,
     job: PhantomData<J>,
 }
@@ -78,8 +78,8 @@ impl<'p, J: Job> Run<'p, J> {
         }
     }
 
-    // The next turn of a worker, if one is left and it has no fault, after which worker 0 shows where
-    // it is to. Whether the worker goes on.
+    // Takes the next turn of a worker, unless it has a fault or no turn left. The turn also shows the longest history
+    // if `is_to_show` says so. Returns true if the turn was taken and ended without a fault.
     fn advance<R: Wait>(&mut self, rt: &R, alloc: Global, worker: u8) -> bool
         requires { worker < J.plan.workers }
         ensures { GoesOn worker self.old self.new result }
@@ -105,7 +105,7 @@ impl<'p, J: Job> Run<'p, J> {
         }
     }
 
-    // The thread of a worker could not be started.
+    // Records that the thread of a worker could not be started. The worker keeps an earlier fault.
     fn refuse(&mut self, worker: u8)
         requires { worker < J.plan.workers }
         ensures { self.new ≡ self.old }
@@ -116,8 +116,8 @@ impl<'p, J: Job> Run<'p, J> {
         }
     }
 
-    // The board, and how the run ended: each worker took all of its turns, or the first that did not
-    // has this fault. If that worker has turns left, the run as it is.
+    // Returns the board, and how the run ended. The end is `Ok` if each worker took all of its turns. Otherwise it is
+    // the fault of the first worker that did not. If that worker has no fault, the unfinished run is returned.
     fn into_board(self) -> Result<(Board, Result<(), BoardFault>), Run<'p, J>>
         ensures ran { IfOk result (λ x. OnOk x.1 (HasRun J.plan J.first x.0)) }
         ensures failed { IfOk result (λ x. IfErr x.1 (HasFailed J.plan J.first x.0)) }
@@ -143,8 +143,8 @@ impl<'p, J: Job> Run<'p, J> {
     }
 }
 
-// How these workers ended: each took so many turns, or the first that did not has this fault. None if
-// that worker has turns left.
+// Returns how these workers ended. The end is `Ok` if each of them took `turns` turns. Otherwise it is the fault of the
+// first worker that did not. If that worker has no fault, the result is `None`.
 fn first_end(ways: &[Way], turns: u32) -> Option<Result<(), BoardFault>>
     ensures { result ≡ first_end turns ways.now }
 {
@@ -163,7 +163,7 @@ fn first_end(ways: &[Way], turns: u32) -> Option<Result<(), BoardFault>>
 
 // Ends a run whose threads have ended.
 //
-// No clause says that a thread takes all turns of its worker. If one ended early, this takes the turns
+// No clause says that a thread takes all turns of its worker. If a thread ended early, this function takes the turns
 // that are left.
 fn finish<'p, J: Job, R: Wait>(
     rt: &R,
@@ -189,7 +189,7 @@ fn finish<'p, J: Job, R: Wait>(
     unreachable!()
 }
 
-// All turns of one worker, up to its first fault.
+// Takes all turns of one worker, up to its first fault.
 fn take_turns<'p, J: Job, R: Wait, G: Gate>(
     rt: &R,
     alloc: Global,
@@ -209,7 +209,7 @@ fn take_turns<'p, J: Job, R: Wait, G: Gate>(
     }
 }
 
-// Starts the workers in a scope, whose end waits for them.
+// Starts the workers in a scope. The end of the scope waits for them.
 fn start_threads<'s, 'p, J: Job + Send, E, R: Threads + Wait + Sync + 's, G: Gate + Sync + 's>(
     scope: &Scope<'s, E>,
     rt: &'s R,
@@ -229,7 +229,7 @@ fn start_threads<'s, 'p, J: Job + Send, E, R: Threads + Wait + Sync + 's, G: Gat
     }
 }
 
-// All turns of all workers, each in a thread of its own.
+// Takes all turns of all workers, each worker in its own thread.
 fn run_threads<'p, J: Job + Send, R: Threads + Wait + Sync, G: Gate + Sync>(
     rt: &R,
     alloc: Global,
@@ -248,7 +248,7 @@ fn run_threads<'p, J: Job + Send, R: Threads + Wait + Sync, G: Gate + Sync>(
     );
 }
 
-// The choosers of a plan before any turn, and that no worker took one, by worker number.
+// Returns the choosers of a plan before any turn, and a way of zero turns for each worker, both by worker number.
 fn seats<'p>(alloc: Global, plan: &'p Plan) -> Result<(Vec<Chooser<'p>>, Vec<Way>), NoMemory>
     ensures choosers { IfOk result (λ x. x.0.items
         ≡ map (first_chooser plan.now) (numbers_below plan.now.workers)) }
@@ -259,7 +259,7 @@ fn seats<'p>(alloc: Global, plan: &'p Plan) -> Result<(Vec<Chooser<'p>>, Vec<Way
     Ok((choosers, ways))
 }
 
-// A run of this plan on this board, both of which the type knows.
+// Runs this plan on this board. The type `J` knows both.
 fn run_job<'p, J: Job + Send, R: Threads + Wait + Sync, G: Gate + Sync>(
     rt: &R,
     alloc: Global,
@@ -281,19 +281,22 @@ fn run_job<'p, J: Job + Send, R: Threads + Wait + Sync, G: Gate + Sync>(
     finish(rt, alloc, run.into_inner(), plan.workers())
 }
 
-/// Lets each worker of the plan take all of its turns on a board, each in a thread of its own, and
-/// gives the board back.
+/// Makes each worker of the plan take all of its turns on a board, in its own thread. Returns the board, and how the
+/// run ended.
 ///
-/// A turn passes the gate, takes a lock that is the run's own, and makes one
-/// [`worker_turn`](crate::worker_turn) with the worker's chooser. Worker 0 also shows the longest history after each 64th
-/// turn of its own, under the same taking of the lock. With `Ok` the board is the one that these turns and no others
-/// bring about, in the order in which the workers got the lock.
+/// For each turn, a worker passes the gate, takes a lock that belongs to the run, and makes one
+/// [`worker_turn`](crate::worker_turn) with its chooser. After each 64th of its turns, worker 0 also shows the longest
+/// history before it releases the lock. If the run ends with `Ok`, exactly these turns have produced the board, in the
+/// order in which the workers got the lock.
 ///
-/// A worker ends at its first fault, and all others go on. `NoMemory` comes first, where there is no
-/// memory to start with, and then the fault of the worker of least number that has one: `NoMemory`,
-/// `NoWorker` where its thread could not be started, or, of worker 0 and from its 64th turn on,
-/// `ShowRefused`. If a thread left turns of its worker, they are taken after all threads have ended,
-/// without the gate.
+/// A worker ends at its first fault, and all others go on. The run fails with `NoMemory` if there is not enough memory
+/// to start. Otherwise, if any worker has a fault, it fails with the fault of the lowest worker that has one:
+///
+/// - `NoMemory`;
+/// - `NoWorker`, if its thread could not be started;
+/// - `ShowRefused`, which only worker 0 can have, from its 64th turn on.
+///
+/// If a thread has left turns of its worker, they are taken without the gate after all threads have ended.
 pub fn run_plan<R: Threads + Wait + Sync, G: Gate + Sync>(
     rt: &R,
     alloc: Global,

@@ -1,4 +1,4 @@
-//! The rule under which readers enter what the writer shows.
+//! The rule that readers follow when they enter the value that the writer shows.
 ghost use Rattle.std.specs.Prelude.{◌≡◌, ◌≤◌, ◌++◌, Some, IfOk, IfErr, length, ◌<◌, ◌^◌};
 ghost use Rattle.std.specs.Prelude.{drop, MatchResult, [], option_copied, option_map};
 ghost use Rattle.std.specs.String.{string_bytes};
@@ -20,7 +20,8 @@ use left_right::writer::Writer;
 use std::alloc::{AllocError, Global};
 use std::sync::Wait;
 
-/// The rule: what is shown belongs to one log, and only grows. Each knows what it has seen of it.
+/// The rule of the shown value. Its list belongs to one log and only grows. The writer and each reader know the prefix
+/// that they have seen.
 pub struct Published;
 
 impl Protocol<Version, Option<Mark>> for Published {
@@ -32,7 +33,7 @@ impl Protocol<Version, Option<Mark>> for Published {
     ghost first = { None };
 }
 
-/// What is shown was seen.
+/// A step that sees the shown value and keeps its mark.
 pub struct Sees;
 
 impl Outcome<Version, Option<Mark>> for Sees {
@@ -41,7 +42,7 @@ impl Outcome<Version, Option<Mark>> for Sees {
     ghost then = { Shows };
 }
 
-/// Notes are copies of what the writer has seen.
+/// The notes that readers learn are copies of the mark that the writer has seen.
 pub struct SeatNotes;
 
 impl Split<Option<Mark>> for SeatNotes {
@@ -58,12 +59,13 @@ impl Join<Option<Mark>> for SeatNotes {
     ghost spent = { None };
 }
 
-/// A reader that is not reading.
+/// A `left_right` reader that is not reading at the moment.
 pub type Home = Reader<Version, Option<Mark>, Published>;
 
 pub type Showing = Writer<Version, Operation, Option<Mark>, Published>;
 
-/// What one reading found: the mark of all that is shown, how much that is, and the text at the key.
+/// The result of one reading. It has the mark of the shown list, the number of commands in that list, and the text at
+/// the key, if there is one.
 #[derive(Drop)]
 pub struct Found {
     pub mark: Mark,
@@ -71,8 +73,8 @@ pub struct Found {
     pub text: Option<String>,
 }
 
-/// Enters what is shown and looks up a key, with room for its text. `NoReader` comes where
-/// `left_right` gives no entry, as where the writer is gone.
+/// Enters the shown value and looks up a key. `room` is an empty string that takes the text. `least` is the length of
+/// the reader's floor. Fails with `NoReader` if `left_right` gives no entry, for example because the writer is gone.
 pub fn read(home: Home, key: &str, room: String, least: u32) -> (Home, Result<Found, BoardFault>)
     requires { string_bytes room ≡ [] }
     ensures book { (x : Origin) → book_of (view home.place) ≡ Some x
@@ -95,15 +97,15 @@ pub fn read(home: Home, key: &str, room: String, least: u32) -> (Home, Result<Fo
     let Ok(text) = copied else {
         return (home, Err(BoardFault::NoMemory));
     };
-    // What is shown only grows, so this never comes. But no clause of `left_right` says that a list
-    // which the reader was told of was shown before it entered.
+    // The shown list only grows, so this never happens. But no clause of `left_right` says that a list from News was
+    // shown before the reader entered.
     if count < least {
         return (home, Err(BoardFault::NoReader));
     }
     (home, Ok(Found { mark, count, text }))
 }
 
-// A copy of the text, if there is one.
+// Copies the text, if there is one, into `room`.
 fn copy_into(mut room: String, text: Option<&str>) -> Result<Option<String>, AllocError>
     requires { string_bytes room ≡ [] }
     ensures { IfOk result (λ x. option_map string_bytes x ≡ option_copied text.entry) }
@@ -115,8 +117,8 @@ fn copy_into(mut room: String, text: Option<&str>) -> Result<Option<String>, All
     Ok(Some(room))
 }
 
-/// Shows all that is pending at once, where that makes all of this log. Where it is refused, what
-/// is shown and the commands that are pending stay.
+/// Shows all pending commands at once. The shown list, followed by the pending commands, must be the whole list of
+/// `log`. If the call fails, the shown list and the pending commands stay as they were.
 pub fn publish<R: Wait>(
     rt: &R,
     log: &Mark,
@@ -142,7 +144,7 @@ pub fn publish<R: Wait>(
     writer.publish_as::<Sees, R>(rt)
 }
 
-/// What shows the empty list of a new log, to as many readers.
+/// Makes a writer for `readers` readers, which shows the empty list of a new log. `opening` is the mark of that list.
 pub fn open_writer<R: Wait>(
     rt: &R,
     alloc: Global,

@@ -1,4 +1,4 @@
-//! Workers that step one board in threads of their own.
+//! Workers step one board, each in its own thread.
 ghost use Rattle.std.specs.Prelude.{◌≡◌, ◌<◌, ◌≤◌, ◌+◌, ◌^◌, ℕ, Err, IfErr, IfOk, MatchOption, MatchResult, vec_len, vec_capacity, slice_index_or};
 ghost use Rattle.std.specs.Fn.{FnOnceReturnsAtMut};
 ghost use Rattle.mencius_choices.specs.Choices.{after_words, chooser_at};
@@ -16,11 +16,11 @@ use std::sync::{Mutex, Wait};
 use std::thread;
 use std::thread::{Promise, PromisedHandle, Scope, Threads};
 
-/// One turn of a worker: chooses one event, as [`Chooser::choose`] does, and steps the board by it.
-/// A refusal other than `NoMemory` ends the turn well.
+/// Takes one turn of a worker. The call chooses one event, as [`Chooser::choose`] does, and steps the board through it.
+/// A turn also ends well if the event is refused, except with `NoMemory`.
 ///
-/// `NoMemory` comes where the choice or the step runs out of memory; the board is then as it was, and
-/// the chooser as the choice left it.
+/// Fails with `NoMemory` if the choice or the step runs out of memory. The board is then unchanged, and the chooser is
+/// as the choice left it.
 pub fn worker_turn(board: &mut Board, chooser: &mut Chooser) -> Result<(), BoardFault>
     ensures turn { EndsTurn chooser.old chooser.new board.old board.new result }
     ensures drawn { chooser.new.drawing ≡ after_words chooser.old.drawing }
@@ -35,24 +35,24 @@ pub fn worker_turn(board: &mut Board, chooser: &mut Chooser) -> Result<(), Board
     }
 }
 
-/// What a worker passes before each of its turns, and before it takes the lock: a place to count
-/// turns, to slow workers down or to let them meet. Threads share it.
+/// A worker passes a gate before each of its turns, before it takes the lock. A gate can count turns, slow workers down
+/// or let them meet. Threads share it.
 pub trait Gate {
-    /// A worker, given by its number, is about to take a turn.
+    /// Lets the worker with this number pass. The worker is about to take a turn.
     fn pass(&self, worker: u8);
 }
 
-/// Lets each worker pass at once.
+/// A gate that lets each worker pass at once.
 pub struct Open;
 
 impl Gate for Open {
     fn pass(&self, _worker: u8) {}
 }
 
-/// Takes the lock, and lends what lies under it.
+/// Takes the lock, lends the value under it to `f`, and returns the result of `f`.
 ///
-/// It is generic in what that is: to let a lock's guard go asks how the value in it would be
-/// dropped, and a board can't be dropped.
+/// The function is generic in the type of that value. Releasing the guard of a lock requires a way to drop the value
+/// under it, and a board cannot be dropped.
 pub fn lend<B, X, R: Wait, F: FnOnce(&mut B) -> X>(rt: &R, lock: &Mutex<B>, f: F) -> X
     requires { F.IsAlwaysCallable f }
     ensures { (old new : B) × FnOnceReturnsAtMut F.FnOnce f old result new }
@@ -61,13 +61,13 @@ pub fn lend<B, X, R: Wait, F: FnOnce(&mut B) -> X>(rt: &R, lock: &Mutex<B>, f: F
     f(&mut held)
 }
 
-/// Worker 0 shows the longest history after each so many of its turns.
+/// Worker 0 shows the longest history each time that it has taken this number of turns.
 const TURNS_A_SHOW: u32 = 64;
 
-// How a worker ended.
+// How a worker ended. This is its progress after all turns, or its fault.
 type Ended = Result<Progress, BoardFault>;
 
-// All turns of one worker.
+// Takes all turns of one worker, up to its first fault.
 fn work<R: Wait, G: Gate>(
     rt: &R,
     alloc: Global,
@@ -99,7 +99,7 @@ fn work<R: Wait, G: Gate>(
     Ok(progress)
 }
 
-// One turn of a worker that has come so far.
+// Takes the next turn of a worker with this progress. Returns the progress after the turn, and the turn's result.
 fn go_on<R: Wait>(
     rt: &R,
     alloc: Global,
@@ -118,7 +118,7 @@ fn go_on<R: Wait>(
     (chooser.into_progress(), answer)
 }
 
-/// One turn, after which the longest history is shown where it is to be.
+/// Takes one turn. If `shows` is set and the turn ended well, the call then shows the longest history.
 pub(crate) fn take_turn<R: Wait>(
     rt: &R,
     alloc: Global,
@@ -134,7 +134,7 @@ pub(crate) fn take_turn<R: Wait>(
     show_after(rt, alloc, board, turned, shows)
 }
 
-/// Whether a worker that took so many turns shows after the next one.
+/// Returns whether a worker that has taken `taken` turns shows the longest history after its next turn.
 pub(crate) fn is_to_show(worker: u8, taken: u32) -> bool
     requires { taken + 1 < 2 ^ 32 }
     ensures { result ≡ is_to_show worker taken }
@@ -142,7 +142,7 @@ pub(crate) fn is_to_show(worker: u8, taken: u32) -> bool
     worker == 0 && (taken + 1) % TURNS_A_SHOW == 0
 }
 
-// Shows the longest history where it is to be shown and the turn ended well.
+// Shows the longest history if `shows` is set and the turn ended well. `turned` is the result of the turn.
 fn show_after<R: Wait>(
     rt: &R,
     alloc: Global,
@@ -160,7 +160,7 @@ fn show_after<R: Wait>(
     Ok(())
 }
 
-// What a worker's thread is to answer.
+// The promise of a worker's thread, which returns how the worker of this plan ended.
 #[derive(Clone, Copy)]
 struct ProgressOf<'p> {
     plan: &'p Plan,
@@ -173,10 +173,10 @@ impl<'p> Promise<Result<Progress, BoardFault>> for ProgressOf<'p> {
     ghost kept_by = { λ x r. HasEnded x.plan.now x.worker r };
 }
 
-// A worker's thread, if it could be started.
+// The thread of a worker, or `None` if it could not be started.
 type Running<'p> = Option<PromisedHandle<Result<Progress, BoardFault>, ProgressOf<'p>>>;
 
-/// What joining a worker's thread gives, if there is one.
+/// Joins a worker's thread and returns its result. If there is no thread, the result is `NoWorker`.
 pub(crate) fn join_started<T, P: Promise<Result<T, BoardFault>>, R: Threads>(
     rt: &R,
     child: Option<PromisedHandle<Result<T, BoardFault>, P>>,
@@ -189,7 +189,7 @@ pub(crate) fn join_started<T, P: Promise<Result<T, BoardFault>>, R: Threads>(
     }
 }
 
-// Joins each worker, and gives how it ended, by worker number.
+// Joins each worker. Returns how the workers ended, by worker number.
 fn gather<'p, R: Threads>(
     rt: &R,
     mut ends: Vec<Ended>,
@@ -210,7 +210,7 @@ fn gather<'p, R: Threads>(
     ends
 }
 
-// Starts the workers in a scope, and joins them.
+// Starts the workers in a scope and joins them. Returns how they ended, by worker number.
 fn start_and_join<'s, E, R: Threads + Wait + Sync + 's, G: Gate + Sync + 's>(
     scope: &Scope<'s, E>,
     rt: &'s R,
@@ -233,7 +233,7 @@ fn start_and_join<'s, E, R: Threads + Wait + Sync + 's, G: Gate + Sync + 's>(
     Ok(gather(rt, ends, running, plan))
 }
 
-// The choosers by worker number, or the fault of the worker of least number that has one.
+// Returns the choosers by worker number, or the fault of the worker with the lowest number that has one.
 fn settle<'p>(
     plan: &'p Plan,
     ends: Vec<Ended>,
@@ -251,14 +251,17 @@ fn settle<'p>(
     Ok(choosers)
 }
 
-/// Runs each worker of the plan in a thread of its own, all of its turns, and gives the choosers by
-/// worker number.
+/// Makes each worker of the plan take all of its turns, in its own thread. Returns the choosers by worker number.
 ///
-/// A turn passes the gate, takes the lock and makes one [`worker_turn`]. Worker 0 also shows the
-/// longest history after each 64th turn of its own, under the same taking of the lock. A worker ends
-/// at its first fault, and all others go on. `NoMemory` comes first, where there is no memory to start
-/// with, and then the fault of the worker of least number that has one: `NoMemory`, `NoWorker`
-/// where its thread could not be started, or, of worker 0 and from its 64th turn on, `ShowRefused`.
+/// For each turn, a worker passes the gate, takes the lock and makes one [`worker_turn`]. After each 64th of its turns,
+/// worker 0 also shows the longest history before it releases the lock.
+///
+/// A worker ends at its first fault, and all others go on. The call fails with `NoMemory` if there is not enough memory
+/// to start. Otherwise, if any worker has a fault, it fails with the fault of the lowest worker that has one:
+///
+/// - `NoMemory`;
+/// - `NoWorker`, if its thread could not be started;
+/// - `ShowRefused`, which only worker 0 can have, from its 64th turn on.
 pub fn run_workers<'p, R: Threads + Wait + Sync, G: Gate + Sync>(
     rt: &R,
     alloc: Global,

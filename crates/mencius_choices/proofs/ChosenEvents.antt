@@ -1,4 +1,4 @@
--- What a choice makes of a chooser.
+-- A chooser after a choice is in the state that `IsChoice` or `IsPutOff` describes.
 use Rattle.std.proofs.Common.{◌≡◌, ℕ, Bool, List, [], ◌∷◌, Option, Some, None, MatchOption, MatchResult, Result, Ok}
 use Rattle.std.proofs.Common.{Err, is_some, refl, sym, ap, subst, ◌∙◌}
 use Rattle.mencius_base.specs.declared.command.Command.{Command}
@@ -10,7 +10,7 @@ use Rattle.mencius_choices.specs.declared.choice.Pick.TheVariants.{NextCommand, 
 use Rattle.mencius_choices.specs.Picks.{pick_of}
 use Rattle.mencius_choices.specs.Choices.{ChooserState, IsChoice, IsPutOff, IsTaken, after_words, is_any, pick_at, words_of}
 
--- there is a next command exactly where any is left
+-- there is a next command exactly if any command is left
 pub any_left : {A B : Type 0} (o : Option A) (left : List B) (first : A → B) (rest : A → List B)
     → MatchOption o (left ≡ []) (λ x. left ≡ first x ∷ rest x) → is_some o ≡ is_any left
 any_left None left first rest h = ap is_any (sym h)
@@ -24,7 +24,7 @@ pick_at_is y x loss left words z a same d is =
     ∙ (ap (λ (o : Bool). pick_of x loss o (words_of y.drawing.generator)) (sym same)
     ∙ (ap (λ (ws : List ℕ). pick_of x loss left ws) (sym d) ∙ sym is))
 
--- an event is picked
+-- if the words pick an event, it is chosen
 pub event_chosen : (old new : ChooserState) (x : ClusterState) (e : Event) → pick_at old x ≡ Is e
     → new ≡ record old { drawing = after_words old.drawing } → IsChoice old x e new
 event_chosen old new x e is made = record {
@@ -33,7 +33,7 @@ event_chosen old new x e is made = record {
   taken = subst (λ (z : Pick). IsTaken z old.left e new.left) (sym is) (refl, ap (λ (y : ChooserState). y.left) made);
 }
 
--- the next command is picked, and is chosen or stays
+-- if the words pick the next command, it is chosen, or it stays the next one after an error
 pub command_chosen : {E : Type 0} (r : Result Event E) (old mid new : ChooserState) (x : ClusterState)
     (first : ℕ × Command) (rest : List (ℕ × Command)) → pick_at old x ≡ NextCommand
     → mid ≡ record old { drawing = after_words old.drawing } → mid.left ≡ first ∷ rest

@@ -1,4 +1,4 @@
--- Three words more are three steps more.
+-- Drawing three more words takes the generator three steps further.
 use Rattle.std.proofs.Common.{◌≡◌, ℕ, zero, suc, ◌+◌, ◌*◌, refl, ap, sym, ◌∙◌, arith}
 use Rattle.rand_pcg.specs.Lcg.{Lcg, advance, next_state, state_after, started, increment_of}
 use Rattle.rand_pcg.specs.Pcg.{multiplier_64}
@@ -26,12 +26,12 @@ none_yet : (g : Lcg) → advance 64 multiplier_64 (3 * 0) g ≡ g
 unfolding state_after
 none_yet g = refl
 
--- a worker before its first turn
+-- the state of a worker before its first turn is its state after 0 turns
 pub first_is : (seed worker : ℕ) → first_drawing seed worker ≡ drawing_after seed worker 0
 first_is seed worker = ap (λ (g : Lcg). record { worker = worker; generator = g })
     (sym (none_yet (started 64 multiplier_64 seed (increment_of 64 worker))))
 
--- and after one turn more
+-- drawing three words after t turns gives the state after t + 1 turns
 pub turn_more : (seed worker t : ℕ) → after_words (drawing_after seed worker t) ≡ drawing_after seed worker (t + 1)
 turn_more seed worker t = ap (λ (g : Lcg). record { worker = worker; generator = g })
     (three_more t (started 64 multiplier_64 seed (increment_of 64 worker)))

@@ -1,4 +1,5 @@
--- The table of choices, and the order of a worker's commands, on worked cases. Each is computed whole.
+-- The table of choices and the order of a worker's commands give the expected results on worked cases. Each case is
+-- computed completely.
 use Rattle.std.proofs.Common.{◌≡◌, ℕ, true, false, List, [], ◌∷◌, refl}
 use Rattle.mencius_base.specs.declared.command.Command.{Command}
 use Rattle.mencius_base.specs.declared.command.Op.TheVariants.{Get}
@@ -21,7 +22,7 @@ get number = record { id = record { client = 1; number = number }; op = Get (97 
 abbrev three_after : List Event → ClusterState
 three_after journal = record { members = new_members 3; hasher = hasher_with 0; journal = journal }
 
--- three servers, after a command that nobody suspects: four messages were sent
+-- three servers after one command, without suspicions. Four messages were sent
 abbrev after_one_command : ClusterState
 after_one_command = three_after
     (Submit 0 (get 0) ∷ Deliver 0 1 ∷ Deliver 0 0 ∷ Deliver 1 0 ∷ Deliver 2 0 ∷ Execute 0 ∷ [])
@@ -41,7 +42,7 @@ pick-suspect : pick_of after_one_command 0 true (words 21 4 5) ≡ Is (Suspect 1
 unfolding numbers_below instances most_messages most_events
 pick-suspect = refl
 
--- message 1 is for server 0 alone
+-- message 1 goes to server 0 alone
 pick-lose : pick_of after_one_command 2 true (words 22 2 1) ≡ Is (Lose 1 0)
 unfolding numbers_below instances most_messages most_events
 pick-lose = refl
@@ -63,14 +64,14 @@ pick-none_left : pick_of after_one_command 0 false (words 69 0 0) ≡ Is (Delive
 unfolding numbers_below instances most_messages most_events
 pick-none_left = refl
 
--- where nothing was sent, message 0 is named
+-- the word names message 0 if no message was sent
 pick-on_new : pick_of (three_after []) 0 true (words 40 1 2) ≡ Is (Deliver 0 2)
 unfolding numbers_below instances most_messages most_events
 pick-on_new = refl
 
 -- ---- the order of commands
 
--- two workers over three servers, whose lists have two, one and two commands
+-- a plan of two workers for three servers, whose lists have two, one and two commands
 abbrev two_workers : PlanState
 two_workers = plan_of 2 7 200 4 ((get 0 ∷ get 1 ∷ []) ∷ (get 10 ∷ []) ∷ (get 20 ∷ get 21 ∷ []) ∷ [])
 

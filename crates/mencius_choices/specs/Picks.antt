@@ -1,4 +1,4 @@
--- The table by which a worker's words pick what it does.
+-- The table that gives the choice for a worker's three words.
 use Rattle.std.specs.Prelude.{ℕ, ◌+◌, ◌-◌, ◌/◌, ◌%◌, ◌==◌, Bool, List, [], ◌∷◌, Option, Some, length, min, nat_lt}
 use Rattle.std.specs.Prelude.{slice_get, slice_index, if◌then◌else◌}
 use Rattle.mencius_base.specs.Numbers.{ServerId, MessageNo}
@@ -10,25 +10,27 @@ use Rattle.mencius_cluster.specs.State.{ClusterState, trace_of}
 use Rattle.mencius_choices.specs.declared.choice.Pick.{Pick}
 use Rattle.mencius_choices.specs.declared.choice.Pick.TheVariants.{NextCommand, Is}
 
--- the message that a word names among so many: any of them by an even word, and one of the last 32 by an odd one
+-- the number of the message that a word names among `many` messages. An even word may name any of them, and an odd word
+-- names one of the last 32. Without messages, the number is 0
 abbrev pub message_named : ℕ → ℕ → MessageNo
 message_named word many =
     if many == 0 then 0
     else (if word % 2 == 0 then word / 2 % many
     else many - 1 - word / 2 % min many 32)
 
--- the server that a message is for, where there is such a message and it is for one alone, and else the server p
+-- the addressee of a message that goes to one server alone. Without a message, or for any other message, it is p
 abbrev pub addressee_or : Option Message → ServerId → ServerId
 addressee_or (Some (Accepted from to inst ballot)) p = to
 addressee_or (Some (Promise from to inst ballot vote)) p = to
 addressee_or _ p = p
 
--- what stands in the first line of a table whose bound is above the row, and x where no bound is
+-- the content of the first line whose bound is above the row, or x if no bound is above it
 abbrev pub row_of_table : {A : Type 0} → ℕ → List (ℕ × A) → A → A
 row_of_table row [] x = x
 row_of_table row (line ∷ lines) x = if nat_lt row line.0 then line.1 else row_of_table row lines x
 
--- the table of choices, which has 64 rows: each line is for the rows below its bound that no line above takes
+-- the table of choices, which has 64 rows. Each line covers the rows below its bound that no earlier line covers. All
+-- other rows deliver the message to the server
 abbrev pub pick_by : (row loss : ℕ) (left : Bool) (message : MessageNo) (server second third : ServerId) → Pick
 pick_by row loss left message server second third =
     row_of_table row (
@@ -40,7 +42,8 @@ pick_by row loss left message server second third =
     ∷ []
     ) (Is (Deliver message server))
 
--- what three words pick: the first says which row, the second which message, and the third which server
+-- the pick of three words. The first word gives the row. The second names the message and the server that suspects. The
+-- third names the server for all other uses
 abbrev pub pick_of : ClusterState → ℕ → Bool → List ℕ → Pick
 pick_of x loss left words =
     let n = x.members.count in

@@ -1,10 +1,10 @@
 use mencius_base::Event;
 
-/// What three words of a worker pick.
+/// The choice that three words of a worker pick.
 #[derive(Debug, Drop)]
 pub enum Pick {
-    /// The worker's next command is to be submitted.
+    /// The worker submits its next command.
     NextCommand,
-    /// This event is to be taken.
+    /// The worker takes this event.
     Is(Event),
 }

@@ -1,4 +1,4 @@
-//! What a worker chooses.
+//! The choices of a worker.
 ghost use Rattle.std.specs.Prelude.{◌≡◌, ◌+◌, ◌<◌, ◌^◌, ◌∷◌, [], MatchOption, MatchResult, OnSome, IfOk, IfSome, map};
 ghost use Rattle.mencius_base.specs.Limits.{most_servers};
 ghost use Rattle.mencius_base.specs.Members.{numbers_below};
@@ -16,12 +16,12 @@ use rand_pcg::Lcg64Xsh32;
 use std::alloc::Global;
 use std::marker::Model;
 
-/// How far a worker's choices have come. It borrows nothing, so that a thread can hand it back.
+/// The state of a worker's choices so far. It borrows nothing, so a thread can return it.
 #[derive(Drop)]
 pub struct Progress {
     worker: u8,
     generator: Lcg64Xsh32,
-    // Where the worker's next command stands, if one is left.
+    // The place of the worker's next command, if one is left.
     next: Option<CommandPlace>,
 }
 
@@ -36,11 +36,10 @@ impl Model for Progress {
     } };
 }
 
-/// The choices of one worker. They follow from the plan, the worker's number and the clusters that
-/// it is shown, and from nothing else.
+/// The choices of one worker. They depend only on the plan, the worker's number and the clusters that it is shown.
 ///
-/// Contracts see the plan, the number with the generator, and the worker's commands that are left,
-/// in the order in which they come.
+/// Contracts see the plan, the worker's number with its generator, and the commands that the worker has left, in the
+/// order in which they come.
 #[derive(Drop)]
 pub struct Chooser<'a> {
     plan: &'a Plan,
@@ -56,8 +55,8 @@ impl<'a> Model for Chooser<'a> {
 }
 
 impl<'a> Chooser<'a> {
-    /// The choices of a worker of the plan, numbered from 0. It draws from the generator
-    /// `Lcg64Xsh32` of the plan's seed and the worker's number, and takes no memory.
+    /// Returns the choices of a worker of the plan, before the first one. Workers are numbered from 0. The words come
+    /// from the generator `Lcg64Xsh32` with the plan's seed and the worker's number. The call does not allocate memory.
     pub fn new(plan: &'a Plan, worker: u8) -> Chooser<'a>
         requires { worker < plan.now.workers }
         ensures { result ≡ first_chooser plan.now worker }
@@ -70,14 +69,14 @@ impl<'a> Chooser<'a> {
         Chooser { plan, progress }
     }
 
-    /// The choices of a worker of the plan that have come so far.
+    /// Returns the choices of a worker of the plan, continued from `progress`.
     pub fn of(plan: &'a Plan, progress: Progress) -> Chooser<'a>
         ensures { result ≡ chooser_at plan.now progress }
     {
         Chooser { plan, progress }
     }
 
-    /// How far the choices have come. With the same plan, [`Chooser::of`] goes on from there.
+    /// Returns the state of the choices so far. [`Chooser::of`] continues from it with the same plan.
     pub fn into_progress(self) -> Progress
         ensures { chooser_at self.entry.plan result ≡ self.entry }
     {
@@ -85,12 +84,12 @@ impl<'a> Chooser<'a> {
         progress
     }
 
-    /// Draws three words, and answers what they pick on this cluster: an event, or the worker's next
-    /// command with the server whose list it stands in. A command is chosen once, also where the
-    /// cluster then refuses it.
+    /// Draws three words, and returns the event that they pick on this cluster. If they pick the worker's next command,
+    /// the event submits it at the server whose list contains it. A command is chosen only once, even if the cluster
+    /// then refuses it.
     ///
-    /// `NoMemory` comes only where the words pick the next command: a copy of it was refused. The
-    /// words are drawn then too, and the command stays the next one.
+    /// Fails with `NoMemory` only if the words pick the next command and there is not enough memory for a copy of it.
+    /// The words are drawn in this case too, and the command stays the next one.
     pub fn choose(&mut self, cluster: &Cluster) -> Result<Event, NoMemory>
         ensures { MatchResult result (λ e. IsChoice self.old cluster.now e self.new)
             (λ _. IsPutOff self.old cluster.now self.new) }
@@ -106,7 +105,7 @@ impl<'a> Chooser<'a> {
         }
     }
 
-    // Submits a command, the worker's next one, and moves on to the one after it.
+    // Returns the event that submits a command, which is the worker's next one. Moves on to the command after it.
     fn submit(&mut self, place: CommandPlace, command: &Command) -> Result<Event, NoMemory>
         requires server { place.server < most_servers }
         requires row { place.row + 1 < 2 ^ 64 }
@@ -125,7 +124,7 @@ impl<'a> Chooser<'a> {
         Ok(Event::Submit { server, command })
     }
 
-    // The worker's next command, and where it stands.
+    // Returns the worker's next command and its place, if one is left.
     fn find_command(&self) -> Option<(CommandPlace, &'a Command)>
         ensures next { MatchOption result (self.now.left ≡ [])
             (λ x. self.now.left
@@ -138,7 +137,7 @@ impl<'a> Chooser<'a> {
         Some((place, command))
     }
 
-    // The next three words.
+    // Draws the next three words and returns them.
     fn draw(&mut self) -> [u32; 3]
         ensures words { result ≡ words_of self.old.drawing.generator }
         ensures drawn { self.new ≡ record self.old { drawing = after_words self.old.drawing } }

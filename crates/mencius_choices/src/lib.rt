@@ -1,8 +1,8 @@
-//! Which events the workers of a run choose.
+//! The events that the workers of a run choose.
 //!
-//! A [`Plan`](mencius_base::Plan) says what the workers are to do, and a [`Chooser`] makes the choices of one of them: it
-//! draws three words from a random generator of its own, and [`pick`] says which event they make. It
-//! looks at a cluster, and steps none.
+//! A [`Plan`](mencius_base::Plan) describes the work of the workers, and a [`Chooser`] makes the choices of one of
+//! them. The chooser draws three words from its own random generator, and [`pick`] returns the choice that they pick.
+//! It reads a cluster, but never steps it.
 #![tactic(auto)]
 
 mod choice;

@@ -1,18 +1,18 @@
-//! The order in which the commands of a worker come.
+//! The order of a worker's commands.
 ghost use Rattle.std.specs.Prelude.{◌≡◌, ◌+◌, ◌<◌, ◌^◌, [], IfSome, OnSome, MatchOption, map, option_map, option_copied};
 ghost use Rattle.mencius_base.specs.Limits.{most_servers};
 ghost use Rattle.mencius_choices.specs.Order.{BeginsWith, IsNextPlace, after_place, own_command, row_count, row_from, rows_from};
 
 use mencius_base::{Command, Plan};
 
-// Where a command stands: in the list of which server, and at which row of it.
+// The place of a command. It is the server whose list contains the command, and the row in that list, from 0.
 #[derive(Clone, Copy, Debug)]
 pub struct CommandPlace {
     pub server: u8,
     pub row: usize,
 }
 
-// The command at a place, where it is one of the worker's.
+// Returns the command at a place, if the list is one of the worker's and has that row.
 pub(crate) fn own_command(plan: &Plan, worker: u8, place: CommandPlace) -> Option<&Command>
     ensures command { option_map (λ x. (place.server, x)) (option_copied result)
         ≡ own_command plan.now worker place.row place.server }
@@ -30,7 +30,7 @@ pub(crate) fn own_command(plan: &Plan, worker: u8, place: CommandPlace) -> Optio
     Some(&list[place.row])
 }
 
-// The first place of a command of the worker's at a row or at a later one.
+// Returns the first place of a command of the worker at this row or at a later row.
 pub(crate) fn find_from_row(plan: &Plan, worker: u8, row: usize) -> Option<CommandPlace>
     ensures { IsNextPlace plan.now worker result (rows_from plan.now worker row) }
 {
@@ -44,7 +44,7 @@ pub(crate) fn find_from_row(plan: &Plan, worker: u8, row: usize) -> Option<Comma
     None
 }
 
-// The first place of a command of the worker's that comes after this place.
+// Returns the first place of a command of the worker after this place.
 pub(crate) fn find_after(plan: &Plan, worker: u8, place: CommandPlace) -> Option<CommandPlace>
     requires server { place.server < most_servers }
     requires row { place.row + 1 < 2 ^ 64 }
@@ -56,7 +56,7 @@ pub(crate) fn find_after(plan: &Plan, worker: u8, place: CommandPlace) -> Option
     find_from_row(plan, worker, place.row + 1)
 }
 
-// The first place of a command of the worker's at this row, of the servers from this one on.
+// Returns the first place of a command of the worker at this row, in the lists from server `first` on.
 fn find_in_row(plan: &Plan, worker: u8, row: usize, first: u8) -> Option<CommandPlace>
     ensures led { MatchOption result (row_from plan.now worker row first ≡ [])
         (λ place. BeginsWith plan.now worker place (row_from plan.now worker row first)
@@ -73,7 +73,7 @@ fn find_in_row(plan: &Plan, worker: u8, row: usize, first: u8) -> Option<Command
     None
 }
 
-// How many commands the longest list has.
+// Returns the length of the longest list.
 fn count_rows(lists: &[Vec<Command>]) -> usize
     ensures { result ≡ row_count (map (λ l. l.items) lists.now) }
 {

@@ -1,4 +1,4 @@
-//! The table by which three words pick an event.
+//! The table that gives the choice for three random words.
 ghost use Rattle.std.specs.Prelude.{◌≡◌, ◌<◌, ◌%◌, length, slice_get, slice_index};
 ghost use Rattle.mencius_model.specs.Trace.{sent_messages};
 ghost use Rattle.mencius_cluster.specs.State.{trace_of};
@@ -8,25 +8,25 @@ use crate::choice::Pick;
 use mencius_base::{Event, Message};
 use mencius_cluster::Cluster;
 
-/// What three words pick on a cluster, where `loss` of 64 choices lose a message and `left` says
-/// whether the worker has a command left. It takes no memory.
+/// Returns the choice that three words pick on a cluster. `loss` is the number of choices, out of 64, that lose a
+/// message. `left` says whether the worker has a command left. The call does not allocate memory.
 ///
 /// With n servers, m messages so far and the words a, b, c:
 ///
 /// | a mod 64 | Pick |
 /// |---|---|
-/// | 0 to 5 | the next command; a delivery where none is left |
+/// | 0 to 5 | the next command, or a delivery if none is left |
 /// | 6 to 17 | `Execute` at server c mod n |
 /// | 18 to 20 | `Retry` at server c mod n |
 /// | 21 | `Suspect`: server b mod n suspects server c mod n |
 /// | 22 to 21 + loss | `Lose` of the message, for the server |
 /// | all others | `Deliver` of the message, to the server |
 ///
-/// The message is number 0 where none was sent, number b / 2 mod m where b is even, and else one of
-/// the last 32: number m - 1 - (b / 2 mod min(m, 32)). The server is the one that the message is for,
-/// where it is for one alone, and else server c mod n.
+/// The message has number 0 if no message was sent, and number b / 2 mod m if b is even. If b is odd, it is one of the
+/// last 32 messages, with number m - 1 - (b / 2 mod min(m, 32)). Divisions round down. The server is the addressee of
+/// the message, if the message goes to one server alone. Otherwise it is server c mod n.
 ///
-/// An event that is picked may be one that the cluster refuses.
+/// The cluster may refuse the event that is picked.
 pub fn pick(words: [u32; 3], loss: u8, left: bool, cluster: &Cluster) -> Pick
     ensures { result ≡ pick_of cluster.now loss left words }
 {
@@ -45,7 +45,7 @@ pub fn pick(words: [u32; 3], loss: u8, left: bool, cluster: &Cluster) -> Pick
     )
 }
 
-// The row of the table.
+// Returns the choice of this row of the table.
 fn pick_row(
     row: u32,
     loss: u32,
@@ -79,7 +79,8 @@ fn pick_row(
     })
 }
 
-// The message that a word names among so many: any of them by an even word, and one of the last 32 by an odd one.
+// Returns the number of the message that a word names among `many` messages. An even word may name any of them, and an
+// odd word names one of the last 32. Without messages, the number is 0.
 fn find_message(word: u32, many: u32) -> u32
     ensures { result ≡ message_named word many }
 {
@@ -92,7 +93,8 @@ fn find_message(word: u32, many: u32) -> u32
     many - 1 - word / 2 % many.min(32)
 }
 
-// The server that a message is for, where it is for one alone, and else the one that the word names.
+// Returns the addressee of a message that goes to one server alone. For any other message, returns the server that the
+// word names.
 fn find_server(cluster: &Cluster, message: u32, word: u32) -> u8
     ensures { result
         ≡ addressee_or (slice_get (sent_messages (trace_of cluster.now)) message)

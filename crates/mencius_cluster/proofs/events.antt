@@ -1,4 +1,4 @@
--- An event that is accepted.
+-- The proofs about accepted events.
 pub mod AcceptedEvents
 pub mod TablesAfterEvents
 pub mod ServerParts

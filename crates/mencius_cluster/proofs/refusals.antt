@@ -1,4 +1,4 @@
--- An event that is refused.
+-- The proofs about refused events.
 pub mod RefusalClauses
 pub mod ServerRefusals
 pub mod FullJournal

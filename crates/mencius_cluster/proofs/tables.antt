@@ -1,4 +1,4 @@
--- Tables.
+-- The proofs about the tables of a cluster.
 pub mod NewCluster
 pub mod SpareRoom
 pub mod ServerRows

@@ -1,4 +1,4 @@
--- The salt of a cluster, from the identities of the commands that it is to take, and the hashes that begin with it.
+-- The hashes of identities, which begin with a salt, and the salt for a cluster that will take given commands.
 use Rattle.std.specs.Prelude.{ℕ, ◌+◌, ◌*◌, ◌^◌, List, fold}
 use Rattle.std.specs.Hash as fed
 use Rattle.std.specs.Hash.DefaultHasher as sip
@@ -14,14 +14,14 @@ identity_word id = id.client * 2 ^ 32 + id.number
 abbrev pub hasher_with : ℕ → DefaultHasher
 hasher_with salt = fold sip.write sip.initial (fed.u64 salt)
 
--- the hash of an identity, by a hasher that has hashed what comes before it
+-- the hash that this hasher gives once it has also hashed an identity
 abbrev pub hash_by : DefaultHasher → CommandId → ℕ
 hash_by hasher id = sip.finish (fold sip.write hasher (fed.u64 (identity_word id)))
 
--- a hasher that writes so, after the identity of one more command
+-- a hasher after it has hashed the identity of a command, with `write` to hash one number
 abbrev pub after_identity : {H : Type 0} → (H → List ℕ → H) → H → Command → H
 after_identity write hasher command = fold write hasher (fed.u64 (identity_word command.id))
 
--- the hash of a salt and of the identities of commands
+-- the hash of a salt followed by the identities of these commands
 abbrev pub salt_after : ℕ → List Command → ℕ
 salt_after salt commands = sip.finish (fold (after_identity sip.write) (hasher_with salt) commands)

@@ -1,4 +1,4 @@
--- What the tables of a cluster hold.
+-- The tables of a cluster, and their content for a trace.
 use Rattle.std.specs.Prelude.{◌≡◌, ℕ, ◌≤◌, Bool, List, Option, Some, Ok, length, map, slice_get, []}
 use Rattle.std.specs.Result.{result_unwrap_or}
 use Rattle.std.specs.List.{filter_map, list_any}
@@ -24,19 +24,20 @@ use Rattle.mencius_model.specs.Replying.{reply_at}
 abbrev pub command_in_row : Row → Command
 command_in_row r = r.1.command
 
--- the command and its home
+-- the command of a row, and its home
 abbrev pub submission_of : Row → Command × ServerId
 submission_of r = submitted_in r.1
 
--- the event of a stored entry, among these commands
+-- the event of a stored entry, with the command at the place of its ticket in this list, or `None` if that place is
+-- missing
 abbrev pub event_of_entry : List Command → Entry → Option Event
 event_of_entry commands = event_by (slice_get commands)
 
--- the events of the stored entries
+-- the events of the stored entries, with the commands of these rows
 abbrev pub journal_of : List Row → List Entry → List Event
 journal_of rows entries = filter_map (event_of_entry (map command_in_row rows)) entries
 
--- every table of a cluster, as contracts see it
+-- the tables of a cluster, as contracts see them
 pub record Tables : Type 0 where
   pub servers : List ServerState
   pub executors : List ExecutorState
@@ -46,7 +47,7 @@ pub record Tables : Type 0 where
   pub is_lost : MessageNo → ServerId → Bool
   pub entries : List Entry
 
--- the tables are the definition's in a trace of these members
+-- the tables have the content that the model gives for this trace and these members
 pub record AreTables (m : Membership) (w : Trace) (x : Tables) : Type 0 where
   pub servers : x.servers ≡ map (server_at m w) (numbers_below m.count)
   pub executors : x.executors ≡ map (executor_at w) (numbers_below m.count)
@@ -60,7 +61,8 @@ pub record AreTables (m : Membership) (w : Trace) (x : Tables) : Type 0 where
   pub lost : (k : MessageNo) (p : ServerId) → x.is_lost k p ≡ list_any (is_loss k p) w
   pub events : length x.entries ≡ events w
 
--- the stored journal replays, and the tables are those of the trace that it makes
+-- the invariant of a cluster. Its journal replays, and its tables belong to the trace that the journal makes. It has 1
+-- to `most_servers` servers and at most `most_events` entries
 pub record IsCluster (m : Membership) (journal : List Event) (x : Tables) : Type 0 where
   pub some : 1 ≤ m.count
   pub few : m.count ≤ most_servers

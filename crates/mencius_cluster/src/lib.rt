@@ -1,7 +1,7 @@
-//! A cluster of servers, stepped by events, and the journal of the events that it accepted.
+//! A cluster of servers takes one event after another, and stores a journal of the events that it accepted.
 //!
-//! All servers live in one process, and the network is the list of all messages that were ever
-//! sent. The module [`laws`] says what holds of every cluster, however its events came.
+//! All servers live in one process, and the network is the list of all messages that were ever sent. The module
+//! [`laws`] states facts that hold for every cluster, no matter which events it took.
 #![tactic(auto)]
 
 mod cluster;

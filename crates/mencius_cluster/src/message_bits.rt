@@ -7,13 +7,14 @@ use mencius_base::NoMemory;
 use std::alloc::Global;
 use std::marker::Model;
 
-/// A table of marks, each at a message and a server: where a message was lost, say.
+/// A table of marks. Each mark is at a message and a server, and says for example that the message was lost for that
+/// server.
 ///
-/// It takes a byte for each message up to the last one that has a mark, and nothing else of it
-/// grows. Room is reserved before a mark is set, so that setting it can no longer fail.
+/// The table grows by one byte for each message up to the last message with a mark, and by nothing more. Room is
+/// reserved before a mark is set, so that setting the mark cannot fail.
 #[derive(Drop)]
 pub struct MessageBits {
-    // By message number a bit for each server. No message past the end has a mark.
+    // One mask for each message number, with one bit for each server. No message past the end has a mark.
     masks: Vec<u8>,
 }
 
@@ -27,7 +28,7 @@ impl Model for MessageBits {
 }
 
 impl MessageBits {
-    /// No marks yet. It takes no memory.
+    /// Makes a table without marks. The call does not allocate.
     pub fn new(alloc: Global) -> MessageBits
         ensures { (k p : _) → has_bit_in result k p ≡ false }
     {
@@ -36,7 +37,7 @@ impl MessageBits {
         }
     }
 
-    /// Whether there is a mark at the message and the server.
+    /// Returns whether there is a mark at the message and the server.
     pub fn is_marked(&self, message: u32, server: u8) -> bool
         requires { server < most_servers }
         ensures { result ≡ has_bit_in self.now message server }
@@ -47,7 +48,7 @@ impl MessageBits {
         }
     }
 
-    /// Makes room for marks at this message. The marks that are there stay either way.
+    /// Makes room for marks at this message. Existing marks stay, even if the call fails.
     pub fn reserve(&mut self, message: u32) -> Result<(), NoMemory>
         ensures kept { (k p : _) → has_bit_in self.new k p ≡ has_bit_in self.old k p }
         ensures room { OnOk result (message < self.new.room) }
@@ -57,7 +58,7 @@ impl MessageBits {
         Ok(())
     }
 
-    /// Sets a mark at the message and the server. Room for it was reserved before.
+    /// Sets a mark at the message and the server. The caller must have reserved room for it.
     pub fn mark(&mut self, message: u32, server: u8)
         requires server { server < most_servers }
         requires room { message < self.old.room }
@@ -69,7 +70,7 @@ impl MessageBits {
     }
 }
 
-// Puts empty masks at the end, where there is room for them, until there is one of this number.
+// Appends empty masks until a mask with this number exists. There must be room for them.
 fn fill(masks: &mut Vec<u8>, number: usize)
     requires { number < vec_capacity masks.old }
     ensures there { number < vec_len masks.new }

@@ -7,10 +7,10 @@ ghost use Rattle.mencius_cluster.specs.Salt.{identity_word, salt_after, hasher_w
 use mencius_base::{Command, CommandId};
 use std::hash::{BuildHasher, DefaultHasher, Hash, Hasher};
 
-// How many commands a client may number.
+// The number of different numbers that a client can give to its commands.
 const NUMBER_COUNT: u64 = 1 << 32;
 
-// An identity as one word, which takes a third of the instructions to hash that its two numbers take.
+// Returns an identity as one word. Hashing this word takes a third of the instructions of hashing two numbers.
 fn identity_word(id: CommandId) -> u64
     ensures { result ≡ identity_word id }
 {
@@ -34,11 +34,11 @@ impl Hash for Identity {
     }
 }
 
-/// A salt for a cluster that is to take these commands: a hash by SipHash of another salt, as 0, and
-/// of the identities of the commands, in order.
+/// Returns a salt for a cluster that will take these commands. It is the SipHash of another salt, such as 0, followed
+/// by the identities of the commands, in order.
 ///
-/// It changes with each identity, so that whoever chooses identities that share a place under one
-/// salt has chosen them for another one.
+/// The result changes with each identity. So an attacker who chooses identities that share a place under one salt has
+/// changed the salt by choosing them.
 pub fn salt_after(salt: u64, commands: &[Command]) -> u64
     ensures { result ≡ salt_after salt commands.now }
 {
@@ -50,15 +50,15 @@ pub fn salt_after(salt: u64, commands: &[Command]) -> u64
     hasher.finish()
 }
 
-/// Hashes by SipHash, with a salt before whatever is hashed.
+/// Builds SipHash hashers that have already hashed a salt.
 #[derive(Clone, Copy)]
 pub struct BuildSaltedHasher {
-    // It has hashed the salt.
+    // This hasher has already hashed the salt.
     first: DefaultHasher,
 }
 
 impl BuildSaltedHasher {
-    /// By this salt. Which keys of a map share a place depends on all its bits.
+    /// Makes a builder with this salt. All bits of the salt affect which keys of a map share a place.
     pub fn new(salt: u64) -> BuildSaltedHasher
         ensures { result.first ≡ hasher_with salt }
     {

@@ -8,28 +8,29 @@ ghost use Rattle.mencius_model.specs.Replying.{first_reply};
 use map_exec::{Executor, Reply};
 use mencius_base::{Command, NoMemory};
 
-/// Whether a submitted command has its reply.
+/// The reply of a submitted command, if the command has one.
 #[derive(Debug, Drop)]
 pub enum Answered {
-    /// The server that it was submitted at has not executed it yet.
+    /// The server that the command was submitted to has not executed it yet.
     Pending,
-    /// What the map of that server held at the command's key when it first executed the command.
+    /// The text, if any, that the map of that server had at the command's key when it first executed the command.
     Given(Reply),
 }
 
-/// A command that was submitted, as a cluster keeps it.
+/// A submitted command, as a cluster stores it.
 #[derive(Debug, Drop)]
 pub struct Submission {
     /// The command.
     pub command: Command,
-    /// The server that it was submitted at.
+    /// The server that the command was submitted to.
     pub home: u8,
-    /// Whether it has its reply, and which.
+    /// The reply of the command, if the command has one.
     pub reply: Answered,
 }
 
 impl Submission {
-    /// Executes the command, and keeps its reply if this is its home and it has none yet.
+    /// Executes the command at a server. Stores the reply if the server is the command's home and no reply is stored
+    /// yet.
     pub(crate) fn execute(
         &mut self,
         executor: &mut Executor,

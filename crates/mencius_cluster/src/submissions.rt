@@ -15,17 +15,17 @@ use std::alloc::Global;
 use std::hash::BuildHasher;
 use std::marker::Model;
 
-// Room for so many commands is asked for with the first: a cluster accepts no more of them. To grow from
-// none on would copy each of them twice, and look for a place for each again.
+// The first command requests room for this number of commands, because a cluster accepts no more. If the table grew
+// from zero, each command would be copied twice, and its place would be searched again each time.
 const FIRST_COMMANDS: usize = INSTANCES as usize;
 
-/// The submitted commands, in the order of their tickets. No two have the same identity.
+/// The submitted commands, in the order of their tickets. No two commands have the same identity.
 ///
-/// A command is found by its ticket or by its identity. What a search by identity costs is up to a
-/// hash of the identities that begins with a salt.
+/// A command is found by its ticket or by its identity. The cost of a search by identity depends on a hash of the
+/// identities, which begins with a salt.
 #[derive(Drop)]
 pub struct Submissions {
-    // A command's place is its ticket.
+    // The place of a command is its ticket.
     rows: IndexMap<Identity, Submission, BuildSaltedHasher>,
 }
 
@@ -44,7 +44,7 @@ impl Model for Submissions {
 }
 
 impl Submissions {
-    /// No command yet. It takes no memory.
+    /// Makes a table without commands. The call does not allocate.
     pub fn new(alloc: Global, salt: u64) -> Submissions
         ensures entries { result.entries ≡ [] }
         ensures hasher { result.hasher ≡ hasher_with salt }
@@ -54,14 +54,14 @@ impl Submissions {
         }
     }
 
-    /// How many commands were submitted.
+    /// Returns the number of submitted commands.
     pub fn len(&self) -> usize
         ensures len { result ≡ length self.now.entries }
     {
         self.rows.len()
     }
 
-    /// The command of a ticket, with what is stored of it.
+    /// Returns the stored command of a ticket, or `None` if no command has this ticket.
     pub fn of_ticket(&self, ticket: u32) -> Option<&Submission>
         ensures { option_copied result
             ≡ option_map (λ row. row.1) (slice_get self.now.entries ticket) }
@@ -70,21 +70,21 @@ impl Submissions {
         Some(submission)
     }
 
-    /// The command of an identity, with what is stored of it.
+    /// Returns the stored command of an identity, or `None` if no command has this identity.
     pub fn of_id(&self, id: CommandId) -> Option<&Submission>
         ensures value { option_copied result ≡ lookup (is_same_id id) self.now.entries }
     {
         self.rows.get(&Identity { id })
     }
 
-    /// The hash by which a command of this identity is looked for.
+    /// Returns the hash that a search for this identity uses.
     pub fn hash_of(&self, id: CommandId) -> u64
         ensures { result ≡ hash_by self.now.hasher id }
     {
         self.rows.hasher().hash_one(Identity { id })
     }
 
-    /// Makes room for one more command. The commands that are there stay either way.
+    /// Makes room for another command. The stored commands stay, even if the call fails.
     pub fn reserve(&mut self) -> Result<(), NoMemory>
         ensures entries { self.new.entries ≡ self.old.entries }
         ensures hasher { self.new.hasher ≡ self.old.hasher }
@@ -97,7 +97,8 @@ impl Submissions {
         Ok(())
     }
 
-    /// Adds a command that has no reply yet, for which there is room. Its ticket is the next one.
+    /// Adds a command without a reply, which gets the next ticket. There must be room for it, and its identity must be
+    /// new.
     pub fn enroll(&mut self, command: Command, home: u8)
         requires room { 0 < self.old.room }
         requires new { lookup (is_same_id command.id) self.old.entries ≡ None }
@@ -116,8 +117,8 @@ impl Submissions {
         };
     }
 
-    /// Executes the command of a ticket at a server, and keeps its reply if that is its home and it
-    /// has none yet.
+    /// Executes the command of a ticket at a server. Stores the reply if the server is the command's home and no reply
+    /// is stored yet.
     pub fn execute(
         &mut self,
         executor: &mut Executor,
@@ -136,7 +137,7 @@ impl Submissions {
     }
 }
 
-/// Executes a value at a server: nothing for no-op, and the command of a ticket.
+/// Executes a value at a server. No-op does nothing, and a ticket executes its command.
 pub fn perform(
     executor: &mut Executor,
     submissions: &mut Submissions,

@@ -1,4 +1,4 @@
--- Arguments that are texts are their bytes.
+-- The texts of arguments that are UTF-8 are their bytes.
 use Rattle.std.specs.Prelude.{Vec}
 use Rattle.std.specs.Str.{IsUtf8, is_utf8}
 use Rattle.std.proofs.Common.{◌≡◌, ℕ, true, false, List, [], ◌∷◌, refl, ap₂, inl, inr}

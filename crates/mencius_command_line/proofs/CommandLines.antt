@@ -1,4 +1,5 @@
--- Command lines: what `clap` finds is what is asked for, and which kinds of error there are at some.
+-- The code reads the task that `clap` finds. The file also computes the task, or the kinds of error, of some command
+-- lines.
 use Rattle.std.specs.Prelude.{◌≡◌, ◌++◌, ◌-◌, ◌^◌, Bool, true, false, List, [], ◌∷◌, Option, Some, None, Result, codes, option_map, Box, String, length, map, string_bytes}
 use Rattle.std.specs.Option.{option_map_or}
 use Rattle.std.specs.Box.{box_value}
@@ -22,19 +23,20 @@ use Rattle.mencius_command_line.specs.CommandLine.{TaskState, task_in, asked_rep
 use Rattle.mencius_command_line.specs.Flags.{has_flag}
 use Rattle.mencius_draw.specs.declared.options.Scheme.TheVariants.{Both, Light, Dark}
 
--- ---- what was found
+-- ---- flags and tasks that were found
 
--- whether a text that was found is that of a flag
+-- a flag that has a text is given exactly if the text is "true"
 pub flag_there : (f : Found) (id : Text) (s : Bor Text) (a : Bool) → Some s.now ≡ first_value f id
     → a ≡ bytes_eq s.now (codes "true") → a ≡ has_flag id (rows_of f)
 flag_there found id s a e is = is ∙ ap (λ o. option_map_or (λ text. bytes_eq text (codes "true")) o false) (e
     ∙ first_value-rows found id)
 
+-- a flag without a text is not given
 pub flag_missing : (f : Found) (id : Text) → None ≡ first_value f id → false ≡ has_flag id (rows_of f)
 flag_missing found id e =
     ap (λ o. option_map_or (λ text. bytes_eq text (codes "true")) o false) (e ∙ first_value-rows found id)
 
--- the name and the rows of a task that was found
+-- the task that was found has the name and the rows that the code reads
 pub task_found : {Z : Type 0} (s : Option (Box SubCommand Z)) (name : Text) (rows : List Row)
     → Some name ≡ option_map (λ task. (out-SubCommand (box_value task)).name.now) s
     → Some rows ≡ option_map (λ pair. pair.1) (subcommand_rows s) → subcommand_rows s ≡ Some (name, rows)
@@ -44,13 +46,13 @@ task_found (Some found_command) name rows n r =
     let found : rows ≡ rows_of (found_of (out-SubCommand (box_value found_command)).matches) = cc in
     rw (same, found) refl
 
--- ---- what is wrong
+-- ---- errors
 
 pub program_simple : is_simple_and_free program ≡ true
 unfolding clap_on_literals
 program_simple = refl
 
--- what `clap` has against the words comes first
+-- an error of a kind that `clap` finds is also an error of the whole command line
 kinds_first : (kinds next : Kinds) (e : Error) → HasKind kinds e → HasKind (or_else kinds next) e
 kinds_first [] next e (inl memory) = inl memory
 kinds_first [] next e (inr none) = absurd none
@@ -68,7 +70,7 @@ err_of kinds r e is h = let failing = err_from_is_err_and r is in rw (failing.1,
 pub kinds_next : (kinds next : Kinds) → kinds ≡ [] → or_else kinds next ≡ next
 kinds_next kinds next h = ap (λ ks. or_else ks next) h
 
--- ---- command lines, and the kinds of error that the program has at each: none at those that it takes
+-- ---- examples of command lines, with the task or the kinds of error (an accepted command line has none)
 
 abbrev fault_at : List Text → Kinds
 fault_at words = faults (codes "mencius" ∷ words)
@@ -120,7 +122,7 @@ version-asked : fault_at (codes "--version" ∷ []) ≡ kind.DisplayVersion ∷ 
 unfolding clap_on_literals
 version-asked = refl
 
--- a name that looks like an option is no word
+-- the first word is the program's name, even if it looks like an option
 name-left-out : faults (codes "--lookup" ∷ codes "replay" ∷ []) ≡ []
 unfolding clap_on_literals
 name-left-out = refl
@@ -184,7 +186,7 @@ key-missing : fault_at (codes "run" ∷ codes "--lookup" ∷ []) ≡ kind.Invali
 unfolding clap_on_literals
 key-missing = refl
 
--- a key may begin with a hyphen, behind `=` and apart, and is then no option
+-- a key may begin with a hyphen, after `=` or as a word of its own, and is then not read as an option
 hyphen-key : asked_at (codes "run" ∷ codes "--lookup=-a" ∷ []) ≡ asked_run false false (Some (codes "-a"))
 unfolding clap_on_literals
 hyphen-key = refl
@@ -218,18 +220,18 @@ empty-key : fault_at (codes "run" ∷ codes "--lookup=" ∷ []) ≡ kind.ValueVa
 unfolding clap_on_literals is_name
 empty-key = refl
 
--- `--lookup` and the word after it are read as one
+-- `--lookup` and the word after it are read as one word
 pub joined_key : (word key made : Text) (words : List Text) → bytes_eq word (codes "--lookup") ≡ true
     → made ≡ word ++ 61 ∷ key → with_joined_key (word ∷ key ∷ words) ≡ made ∷ with_joined_key words
 joined_key word key made words same is = rw same (ap (λ text. text ∷ with_joined_key words) (sym is))
 
--- any other word is read as it stands
+-- any word except `--lookup` is read unchanged
 pub other_word : (word : Text) (words : List Text) → bytes_eq word (codes "--lookup") ≡ false
     → with_joined_key (word ∷ words) ≡ word ∷ with_joined_key words
 other_word word [] other = refl
 other_word word (key ∷ words) other = rw other refl
 
--- and so is the last one
+-- the last word is read unchanged
 pub last_word : {Z : Type 0} (word : Text) (words : List (String Z)) → length words ≡ 0
     → with_joined_key (word ∷ map string_bytes words) ≡ word ∷ with_joined_key (map string_bytes words)
 last_word word [] none = refl

@@ -1,4 +1,4 @@
--- The task `draw`: its options, and what they ask for.
+-- The task `draw`, its options, and the picture that they request.
 use Rattle.std.specs.Prelude.{ℕ, ◌-◌, ◌^◌, Bool, true, false, List, [], ◌∷◌, Option, Some, None, Result, Ok, Err, codes}
 use Rattle.clap.specs.Words.{App, Kinds, Row, Rule, Text, first_of, new_app, new_rule, with_rule}
 use Rattle.clap.specs.declared.builder.action.ArgAction.TheVariants.{Set, SetTrue}
@@ -13,55 +13,61 @@ use Rattle.mencius_command_line.specs.Flags.{has_flag}
 
 -- ---- the task
 
--- `--from EVENT` and `--to EVENT`
+-- an option `--from EVENT` or `--to EVENT`, whose value is the place of an event
 abbrev pub place_option : Text → Rule
 place_option name = record (new_rule name) { long = Some name; action = Some Set; value_names = 1 }
 
--- `--dark`
+-- the flag `--dark`
 abbrev pub dark_option : Rule
 dark_option = record (new_rule (codes "dark")) { long = Some (codes "dark"); action = Some SetTrue }
 
--- `--light`
+-- the flag `--light`
 abbrev pub light_option : Rule
 light_option = record (new_rule (codes "light")) { long = Some (codes "light"); action = Some SetTrue }
 
+-- the task `draw`, with its options
 abbrev pub draw_task : App
 draw_task =
     with_rule (with_rule (with_rule (with_rule (new_app (codes "draw")) (place_option (codes "from")))
     (place_option (codes "to"))) dark_option) light_option
 
--- ---- what is asked for
+-- ---- the requested picture
 
+-- the greatest place that an option can name
 abbrev pub last_place : ℕ
 last_place = 2 ^ 32 - 1
 
--- the place that a word is, as events write numbers, and another one where there is no word
+-- the place that a word names, by the rules for numbers in events, or the fault of the word. If the word is missing, it
+-- is `other`
 abbrev pub place_in : ℕ → Option Text → Result ℕ IoFault
 place_in other None = Ok other
 place_in other (Some word) = value_or_fault is_u32 (number_of word)
 
--- both schemes where both are asked for, or neither is
+-- the scheme that the two flags request. With both flags, or with neither, it is `Both`
 abbrev pub scheme_by : Bool → Bool → Scheme
 scheme_by true false = Dark
 scheme_by false true = Light
 scheme_by is_dark is_light = Both
 
+-- the options with two places and a scheme, or none if one of the places has a fault
 abbrev pub options_by : Scheme → Result ℕ IoFault → Result ℕ IoFault → Option Options
 options_by scheme (Ok first) (Ok last) = Some (record { first = first; last = last; scheme = scheme })
 options_by scheme first last = None
 
--- the first and the last event that are drawn, and the colours; nothing where a place is none
+-- the first and the last event that are drawn, and the colours, or none if a place is not a number
 abbrev pub options_of : List Row → Option Options
 options_of rows =
     options_by (scheme_by (has_flag (codes "dark") rows) (has_flag (codes "light") rows))
     (place_in 0 (first_of (codes "from") rows)) (place_in last_place (first_of (codes "to") rows))
 
--- ---- what is wrong with it
+-- ---- the faults of its options
 
+-- the kind of error for a place that is not a number, and no kind for any other place
 abbrev pub place_faults : Result ℕ IoFault → Kinds
 place_faults (Ok place) = []
 place_faults (Err fault) = kind.ValueValidation ∷ []
 
+-- the kind of error if a place in the options is not a number, and no kind otherwise
 abbrev pub part_faults : Option Options → Kinds
 part_faults (Some options) = []
 part_faults None = kind.ValueValidation ∷ []

@@ -1,4 +1,4 @@
-//! The arguments that the program is called with, which are bytes.
+//! Reads the arguments that the program is called with. An argument is a list of bytes.
 
 ghost use Rattle.std.specs.Prelude.{◌≡◌, IfOk, map, string_bytes, true};
 ghost use Rattle.std.specs.Str.{is_utf8};
@@ -9,10 +9,10 @@ use crate::line::{Task, read_command_line};
 use clap::Error;
 use std::alloc::{AllocError, Global};
 
-// The name that usage shows, whatever name the program was started by.
+// The name that usage shows. It does not depend on the name that the program was started by.
 const NAME: &str = "mencius";
 
-/// Whether all arguments are texts, that is, UTF-8.
+/// Returns whether all arguments are texts, which means that they are UTF-8.
 pub fn are_texts(arguments: &[Vec<u8>]) -> bool
     ensures { result ≡ are_texts (bytes_of arguments.now) }
 {
@@ -35,12 +35,12 @@ fn is_text(bytes: &[u8]) -> bool
     }
 }
 
-/// What arguments ask for that are texts, as [`read_command_line`] says of the words. The program's
-/// own name is none of them.
+/// Reads arguments that are texts, by the rules of [`read_command_line`]. The arguments do not contain the program's
+/// own name.
 ///
 /// # Errors
 ///
-/// Those of [`read_command_line`].
+/// The errors of [`read_command_line`].
 pub fn read_arguments(alloc: Global, arguments: &[Vec<u8>]) -> Result<Task, Error>
     requires { are_texts (bytes_of arguments.now) ≡ true }
     ensures task { IfOk result
@@ -51,7 +51,7 @@ pub fn read_arguments(alloc: Global, arguments: &[Vec<u8>]) -> Result<Task, Erro
     read_command_line(alloc, words.as_slice())
 }
 
-// The program's name, and then the arguments.
+// Returns the program's name, followed by the arguments.
 fn words_in(alloc: Global, arguments: &[Vec<u8>]) -> Result<Vec<String>, AllocError>
     ensures { IfOk result (λ x. map string_bytes x.items ≡ line_of (lossy_of arguments.now)) }
 {

@@ -1,4 +1,4 @@
-//! The task `draw`: which part of a schedule is drawn, and in which colours.
+//! Reads the options of the task `draw`. They select the part of a schedule that is drawn, and its colours.
 
 ghost use Rattle.std.specs.Prelude.{◌≡◌, IfOk, Ok, Some, false};
 ghost use Rattle.clap.specs.declared.builder.command.Command.TheViews.{out-Command as fields_of};
@@ -16,7 +16,7 @@ const DRAW_USAGE: &str = "mencius draw [OPTIONS] < SCENARIO";
 
 const PLACE_RULE: &str = "the place of an event is a number, 0 to 4294967295";
 
-// An option whose value is the place of an event.
+// Builds an option whose value is the place of an event.
 fn place_option<'a>(alloc: Global, name: &'a str) -> Arg<'a>
     ensures rule { rule_of result ≡ place_option name.now }
     ensures local { result.global ≡ false }
@@ -27,7 +27,7 @@ fn place_option<'a>(alloc: Global, name: &'a str) -> Arg<'a>
         .value_name("EVENT")
 }
 
-// The option `--dark`.
+// Builds the option `--dark`.
 fn dark_option<'a>(alloc: Global) -> Arg<'a>
     ensures rule { rule_of result ≡ dark_option }
     ensures local { result.global ≡ false }
@@ -37,7 +37,7 @@ fn dark_option<'a>(alloc: Global) -> Arg<'a>
         .action(ArgAction::SetTrue)
 }
 
-// The option `--light`.
+// Builds the option `--light`.
 fn light_option<'a>(alloc: Global) -> Arg<'a>
     ensures rule { rule_of result ≡ light_option }
     ensures local { result.global ≡ false }
@@ -47,7 +47,7 @@ fn light_option<'a>(alloc: Global) -> Arg<'a>
         .action(ArgAction::SetTrue)
 }
 
-/// The task `draw`, with its options.
+/// Builds the task `draw`, with its options.
 pub(crate) fn draw_command<'a>(alloc: Global) -> Result<Command<'a>, AllocError>
     ensures draw { IfOk result (λ command. app_of command ≡ draw_task) }
     ensures local { IfOk result (λ command. (fields_of command).has_globals ≡ false) }
@@ -60,7 +60,7 @@ pub(crate) fn draw_command<'a>(alloc: Global) -> Result<Command<'a>, AllocError>
         .arg(light_option(alloc))
 }
 
-// The colours that are asked for: those of both schemes where both are, or neither is.
+// Returns the colours that the flags request. With both flags, or with neither, these are the colours of both schemes.
 fn scheme_by(is_dark: bool, is_light: bool) -> Scheme
     ensures { result ≡ scheme_by is_dark is_light }
 {
@@ -71,7 +71,7 @@ fn scheme_by(is_dark: bool, is_light: bool) -> Scheme
     }
 }
 
-// The place that an option names, and another one where the option is not given.
+// Returns the place that an option names, or `other` if the option is not given.
 fn place_in(alloc: Global, matches: &ArgMatches, name: &str, other: u32) -> Result<u32, Error>
     ensures place { IfOk result (λ place.
         place_in other (first_of name.now (rows_of (found_of matches.now))) ≡ Ok place) }
@@ -87,7 +87,7 @@ fn place_in(alloc: Global, matches: &ArgMatches, name: &str, other: u32) -> Resu
     }
 }
 
-// The error of a place that is none, in the form of `clap`'s own, with the usage of `draw`.
+// Builds the error for a word that is not a place. It has the form of `clap`'s own errors, and the usage of `draw`.
 fn place_error(alloc: Global, name: &str, word: &str) -> Result<Error, AllocError>
     ensures { IfOk result (λ e. kind_of e ≡ ErrorKind.ValueValidation) }
 {
@@ -95,7 +95,7 @@ fn place_error(alloc: Global, name: &str, word: &str) -> Result<Error, AllocErro
     draw_command(alloc)?.error(ErrorKind::ValueValidation, message.as_str())
 }
 
-/// The part and the colours that the options of `draw` ask for. A place that is no number is refused.
+/// Returns the part and the colours that the options of `draw` request. Fails if a place is not a number.
 pub(crate) fn options_of(alloc: Global, matches: &ArgMatches) -> Result<Options, Error>
     ensures options { IfOk result (λ options.
         options_of (rows_of (found_of matches.now)) ≡ Some options) }

@@ -1,4 +1,4 @@
-//! What the words behind the program's name ask for, read exactly, with what each of the program's pages of help says.
+//! Reads the words after the program's name exactly, and contains the program's pages of help.
 #![tactic(auto)]
 
 mod arguments;

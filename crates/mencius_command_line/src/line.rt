@@ -1,4 +1,4 @@
-//! The words after the program's name.
+//! Reads the words after the program's name.
 
 ghost use Rattle.std.specs.Prelude.{◌≡◌, ◌≤◌, ◌∷◌, false, IfErr, IfOk, Some, codes, length, map, option_copied, option_map, string_bytes};
 ghost use Rattle.clap.specs.declared.builder.command.Command.TheViews.{out-Command as fields_of};
@@ -13,12 +13,12 @@ use mencius_base::{MOST_KEY_BYTES, is_name};
 use mencius_draw::Options;
 use std::alloc::{AllocError, Global};
 
-/// What a command line asks for.
+/// The task that a command line requests, with its options.
 #[derive(Debug, Drop, PartialEq, Eq)]
 pub enum Task {
     /// A replay of the scenario on standard input.
     Replay {
-        /// Whether a refused event makes it end with another status.
+        /// Whether the replay ends with another exit status if an event is refused.
         is_strict: bool,
     },
     /// A trace of the scenario on standard input.
@@ -33,14 +33,14 @@ pub enum Task {
     Run {
         /// Whether the journal is printed before the report.
         with_journal: bool,
-        /// Whether what was seen of the servers is printed in place of the report.
+        /// Whether the observations of the servers are printed in place of the report.
         with_observations: bool,
-        /// The key that is looked up at the end.
+        /// The key to look up at the end, if there is one.
         key: Option<String>,
     },
 }
 
-// With a version there is the option `--version`; what that prints stands with the pages of help.
+// A program with a version has the option `--version`. The text that this option prints is in `pages`.
 const VERSION: &str = "0.1.0";
 
 const KEY_RULE: &str = "a key has 1 to 64 ASCII letters, digits, `_`, `-` or `.`";
@@ -55,7 +55,7 @@ const JUDGE_USAGE: &str = "mencius judge < LOG";
 
 const RUN_USAGE: &str = "mencius run [OPTIONS] < SCENARIO";
 
-// The option `--journal`.
+// Builds the option `--journal`.
 fn journal_option<'a>(alloc: Global) -> Arg<'a>
     ensures rule { rule_of result ≡ journal_option }
     ensures local { result.global ≡ false }
@@ -65,7 +65,7 @@ fn journal_option<'a>(alloc: Global) -> Arg<'a>
         .action(ArgAction::SetTrue)
 }
 
-// The option `--observations`.
+// Builds the option `--observations`.
 fn observations_option<'a>(alloc: Global) -> Arg<'a>
     ensures rule { rule_of result ≡ observations_option }
     ensures local { result.global ≡ false }
@@ -75,7 +75,7 @@ fn observations_option<'a>(alloc: Global) -> Arg<'a>
         .action(ArgAction::SetTrue)
 }
 
-// The option `--lookup KEY`.
+// Builds the option `--lookup KEY`.
 fn lookup_option<'a>(alloc: Global) -> Arg<'a>
     ensures rule { rule_of result ≡ lookup_option }
     ensures local { result.global ≡ false }
@@ -86,7 +86,7 @@ fn lookup_option<'a>(alloc: Global) -> Arg<'a>
         .value_name("KEY")
 }
 
-// The task `run`, with its options.
+// Builds the task `run`, with its options.
 fn run_command<'a>(alloc: Global) -> Result<Command<'a>, AllocError>
     ensures run { IfOk result (λ command. app_of command ≡ run_task) }
     ensures local { IfOk result (λ command. (fields_of command).has_globals ≡ false) }
@@ -98,7 +98,7 @@ fn run_command<'a>(alloc: Global) -> Result<Command<'a>, AllocError>
         .arg(lookup_option(alloc))
 }
 
-// The option `--strict`.
+// Builds the option `--strict`.
 fn strict_option<'a>(alloc: Global) -> Arg<'a>
     ensures rule { rule_of result ≡ strict_option }
     ensures local { result.global ≡ false }
@@ -108,7 +108,7 @@ fn strict_option<'a>(alloc: Global) -> Arg<'a>
         .action(ArgAction::SetTrue)
 }
 
-// The task `replay`, with its option.
+// Builds the task `replay`, with its option.
 fn replay_command<'a>(alloc: Global) -> Result<Command<'a>, AllocError>
     ensures replay { IfOk result (λ command. app_of command ≡ replay_task) }
     ensures local { IfOk result (λ command. (fields_of command).has_globals ≡ false) }
@@ -118,7 +118,7 @@ fn replay_command<'a>(alloc: Global) -> Result<Command<'a>, AllocError>
         .arg(strict_option(alloc))
 }
 
-// The task `trace`.
+// Builds the task `trace`.
 fn trace_command<'a>(alloc: Global) -> Command<'a>
     ensures trace { app_of result ≡ trace_task }
     ensures local { (fields_of result).has_globals ≡ false }
@@ -126,7 +126,7 @@ fn trace_command<'a>(alloc: Global) -> Command<'a>
     Command::new(alloc, "trace").override_usage(TRACE_USAGE)
 }
 
-// The task `check`.
+// Builds the task `check`.
 fn check_command<'a>(alloc: Global) -> Command<'a>
     ensures check { app_of result ≡ check_task }
     ensures local { (fields_of result).has_globals ≡ false }
@@ -134,7 +134,7 @@ fn check_command<'a>(alloc: Global) -> Command<'a>
     Command::new(alloc, "check").override_usage(CHECK_USAGE)
 }
 
-// The task `judge`.
+// Builds the task `judge`.
 fn judge_command<'a>(alloc: Global) -> Command<'a>
     ensures judge { app_of result ≡ judge_task }
     ensures local { (fields_of result).has_globals ≡ false }
@@ -142,7 +142,7 @@ fn judge_command<'a>(alloc: Global) -> Command<'a>
     Command::new(alloc, "judge").override_usage(JUDGE_USAGE)
 }
 
-// The program, with no task yet.
+// Builds the program without its tasks.
 fn without_tasks<'a>(alloc: Global) -> Command<'a>
     ensures { app_of result ≡ without_tasks }
 {
@@ -151,7 +151,7 @@ fn without_tasks<'a>(alloc: Global) -> Command<'a>
         .subcommand_required(true)
 }
 
-// The program with the tasks that take events as they stand.
+// Builds the program with the tasks `replay`, `trace`, `draw` and `check`.
 fn with_replays<'a>(alloc: Global) -> Result<Command<'a>, AllocError>
     ensures { IfOk result (λ command. app_of command ≡ with_replays) }
 {
@@ -162,7 +162,7 @@ fn with_replays<'a>(alloc: Global) -> Result<Command<'a>, AllocError>
         .subcommand(check_command(alloc))
 }
 
-// The command line that is read.
+// Builds the program with all its tasks.
 fn command_line<'a>(alloc: Global) -> Result<Command<'a>, AllocError>
     ensures { IfOk result (λ command. app_of command ≡ program) }
 {
@@ -171,7 +171,7 @@ fn command_line<'a>(alloc: Global) -> Result<Command<'a>, AllocError>
         .subcommand(run_command(alloc)?)
 }
 
-/// Whether a flag was given.
+/// Returns whether a flag was given.
 pub(crate) fn has_flag(options: &ArgMatches, flag: &str) -> bool
     ensures { result ≡ has_flag flag.now (rows_of (found_of options.now)) }
 {
@@ -181,7 +181,7 @@ pub(crate) fn has_flag(options: &ArgMatches, flag: &str) -> bool
     }
 }
 
-// The first of some words as it is read, and the words that are left then.
+// Returns the next word as `clap` is to read it, and the words that remain.
 fn next_word<'a>(
     alloc: Global,
     word: &String,
@@ -200,8 +200,8 @@ fn next_word<'a>(
     }
 }
 
-// The words behind the name as they are read: `clap` takes a KEY that begins with a hyphen only
-// behind `=`.
+// Returns the words as `clap` is to read them. `--lookup` is joined to its KEY, because `clap` accepts a KEY that
+// begins with a hyphen only after `=`.
 fn words_read(alloc: Global, words: &[String]) -> Result<Vec<String>, AllocError>
     ensures { IfOk result (λ x. map string_bytes x.items
         ≡ words_read (map string_bytes words.now)) }
@@ -219,7 +219,7 @@ fn words_read(alloc: Global, words: &[String]) -> Result<Vec<String>, AllocError
     Ok(joined)
 }
 
-// The key that was given.
+// Returns the key that was given with `--lookup`, if there is one.
 fn key_of(alloc: Global, options: &ArgMatches) -> Result<Option<String>, AllocError>
     ensures { IfOk result (λ key.
         option_map string_bytes key ≡ first_of (codes "lookup") (rows_of (found_of options.now))) }
@@ -230,7 +230,7 @@ fn key_of(alloc: Global, options: &ArgMatches) -> Result<Option<String>, AllocEr
     }
 }
 
-// The task of this name, with its options.
+// Returns the task with this name, with its options.
 fn task_named(alloc: Global, name: &str, options: &ArgMatches) -> Result<Task, Error>
     ensures task { IfOk result (λ task. task_state task
         ≡ task_by_name (Some (name.now, rows_of (found_of options.now)))) }
@@ -263,7 +263,7 @@ fn task_named(alloc: Global, name: &str, options: &ArgMatches) -> Result<Task, E
     Ok(Task::Replay { is_strict })
 }
 
-// The task that was asked for.
+// Returns the task that was requested.
 fn task_of(alloc: Global, matches: &ArgMatches) -> Result<Task, Error>
     ensures task { IfOk result
         (λ task. task_state task ≡ task_by_name (subcommand_rows_of matches.now)) }
@@ -276,14 +276,14 @@ fn task_of(alloc: Global, matches: &ArgMatches) -> Result<Task, Error>
     }
 }
 
-// Whether a word is a key.
+// Returns whether a word is a key.
 fn is_key(word: &str) -> bool
     ensures { result ≡ is_key word.now }
 {
     is_name(word) && !word.is_empty() && word.len() <= MOST_KEY_BYTES
 }
 
-// The key that is to be looked up, where it is none.
+// Returns the word that was given as the key to look up, if it is not a key.
 fn bad_key(task: &Task) -> Option<&str>
     ensures { value_faults (task_state task.now) ≡ bad_key_faults (option_copied result) }
 {
@@ -293,7 +293,7 @@ fn bad_key(task: &Task) -> Option<&str>
     }
 }
 
-// The task, unless its key is none.
+// Returns the task, or fails if the word that was given as its key is not a key.
 fn with_good_key(alloc: Global, task: Task) -> Result<Task, Error>
     ensures task { IfOk result (λ x. task_state x ≡ task_state task) }
     ensures faults { FailsBy (value_faults (task_state task)) result }
@@ -304,7 +304,7 @@ fn with_good_key(alloc: Global, task: Task) -> Result<Task, Error>
     }
 }
 
-// The error of a key that is none, in the form of `clap`'s own, with the usage of `run`.
+// Builds the error for a word that is not a key. It has the form of `clap`'s own errors, and the usage of `run`.
 fn key_error(alloc: Global, key: &str) -> Result<Error, AllocError>
     ensures { IfOk result (λ e. kind_of e ≡ ErrorKind.ValueValidation) }
 {
@@ -312,18 +312,26 @@ fn key_error(alloc: Global, key: &str) -> Result<Error, AllocError>
     run_command(alloc)?.error(ErrorKind::ValueValidation, message.as_str())
 }
 
-/// What the words ask for, of which the first is the program's name, which may be anything. Which
-/// words are taken, which task and which options they ask for, and the kind of the error where they
-/// are not taken, is what `clap` says of a program with a version and the six subcommands
-/// `replay [--strict]`, `trace`, `draw [--from EVENT] [--to EVENT] [--dark] [--light]`, `check`, `judge` and
-/// `run [--journal] [--observations] [--lookup KEY]`, once `--lookup` and the word behind it are joined to
-/// `--lookup=KEY`; and a KEY that is no key of a command is refused, and an EVENT that is no number.
+/// Reads a command line. The first of `words` is the program's name, which may be any word. Before the other words are
+/// read, each `--lookup` is joined to the word after it, as `--lookup=KEY`.
+///
+/// `clap` decides which words are accepted, which task and options they request, and which kind of error refused words
+/// cause. For `clap`, the program has a version and these six subcommands:
+///
+/// - `replay [--strict]`
+/// - `trace`
+/// - `draw [--from EVENT] [--to EVENT] [--dark] [--light]`
+/// - `check`
+/// - `judge`
+/// - `run [--journal] [--observations] [--lookup KEY]`
+///
+/// A KEY that is not a key of a command is also refused. So is an EVENT that is not a number.
 ///
 /// # Errors
 ///
-/// The error has the text to print, says whether it goes to standard error, and has the exit status:
-/// 0 where help or the version was asked for, and 2 for a bad command line. Its kind is `ValueValidation` for a KEY
-/// or an EVENT that is none, and `OutOfMemory` where memory ran out, whatever the words.
+/// The error contains the text to print, and says whether the text goes to standard error. Its exit status is 0 if help
+/// or the version was requested, and 2 for a bad command line. Its kind is `ValueValidation` for a bad KEY or EVENT. It
+/// is `OutOfMemory` if memory ran out, which may happen for any words.
 pub fn read_command_line(alloc: Global, words: &[String]) -> Result<Task, Error>
     ensures task { IfOk result (λ task. task_state task ≡ task_in (map string_bytes words.now)) }
     ensures faults { FailsBy (faults (map string_bytes words.now)) result }

@@ -1,4 +1,4 @@
-//! What help and the version print, and which help the arguments ask for.
+//! Contains the texts of help and of the version, and selects the text that the arguments request.
 
 ghost use Rattle.std.specs.Prelude.{◌≡◌, option_copied};
 ghost use Rattle.mencius_command_line.specs.CommandLine.{bytes_of};
@@ -387,10 +387,11 @@ Examples, at the top of the repository. The second replays a run, and the third 
 docs/FORMATS.md describes the format in full, and examples/ has runs to try.
 ";
 
-/// What the program shows, on standard output, where `clap` answers the arguments by an error of this
-/// kind: the help that they ask for, or the version. There is nothing to show for a mistake. `-h`
-/// and `--help` show the same; behind the name of a task, and behind `help` and a name, it is the
-/// help of that task.
+/// Returns the text to show on standard output if `clap` fails with an error of this `kind` for the arguments. The text
+/// is the help that the arguments request, or the version. For a mistake, the result is `None`.
+///
+/// `-h` and `--help` show the same text. After the name of a task, and after `help` and a name, this is the help of
+/// that task.
 pub fn text_to_show(kind: ErrorKind, arguments: &[Vec<u8>]) -> Option<&'static str>
     ensures { option_copied result ≡ shown_for kind (bytes_of arguments.now) }
 {
@@ -401,7 +402,7 @@ pub fn text_to_show(kind: ErrorKind, arguments: &[Vec<u8>]) -> Option<&'static s
     }
 }
 
-// The help that the arguments ask for.
+// Returns the help that the arguments request.
 fn help_for(arguments: &[Vec<u8>]) -> &'static str
     ensures { result.now ≡ help_for (bytes_of arguments.now) }
 {
@@ -411,7 +412,7 @@ fn help_for(arguments: &[Vec<u8>]) -> &'static str
     }
 }
 
-// The help of the task that the first word names.
+// Returns the help of the task that the first word names. Without words, returns the help of the program.
 fn first_help(words: &[Vec<u8>]) -> &'static str
     ensures { result.now ≡ first_help (bytes_of words.now) }
 {
@@ -421,7 +422,7 @@ fn first_help(words: &[Vec<u8>]) -> &'static str
     }
 }
 
-// The help of the task of this name, or else that of the program.
+// Returns the help of the task with this name. For any other name, returns the help of the program.
 fn help_named(name: &[u8]) -> &'static str
     ensures { result.now ≡ help_named name.now }
 {

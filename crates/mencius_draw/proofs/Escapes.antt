@@ -1,4 +1,4 @@
--- What a picture shows of a trace has no byte that XML reserves.
+-- The text that a picture shows in place of the bytes of a trace has no byte that XML reserves.
 use Rattle.std.proofs.Common.{◌≡◌, ◌≢◌, ◌∙◌, ℕ, Bool, true, false, List, ap, arith, refl, sym, if◌then◌else◌}
 use Rattle.std.proofs.lemmas.List.Elements.{All-map}
 use Rattle.std.specs.List.{All}

@@ -1,4 +1,4 @@
--- What is drawn of the lines that a picture needs is what is drawn of all of them.
+-- The picture of the needed lines is the picture of all lines.
 use Rattle.std.proofs.Common.{◌≡◌, ℕ, Bool, true, false, List, [], ◌∷◌, ◌++◌, None, ap, arith, sym, refl, ◌∙◌, ◌||◌, append-nil, filter_map, if◌then◌else◌}
 use Rattle.std.specs.Prelude.{max}
 use Rattle.std.specs.List.{cons_option, flat_map}
@@ -41,7 +41,7 @@ texts f h (x ∷ xs) =
     ∙ ap (λ text. text ++ flat_map f (flat_map if_needed xs)) (one f x (is_needed x) (h x))
     ∙ ap (λ text. f x ++ text) (texts f h xs)
 
--- two texts of each line that are the same
+-- if two functions give the same text for each line, they give the same text for all lines together
 same_texts : (f g : Outline → List ℕ) → ((x : Outline) → f x ≡ g x) → (xs : List Outline) → flat_map f xs ≡ flat_map g xs
 same_texts f g h [] = refl
 same_texts f g h (x ∷ xs) =

@@ -1,4 +1,4 @@
--- What is drawn of a trace stands at levels of its own.
+-- The drawn events of a trace have strictly rising levels within the picture, and so have its labels.
 use Rattle.std.proofs.Common.{◌≡◌, refl, ℕ, zero, suc, ◌+◌, ◌<◌, ◌≤◌, Bool, true, false, List, [], ◌∷◌, Some, None, arith}
 use native.Mathlib.Numerals.{unary_clauses}
 use Rattle.std.proofs.lemmas.List.Elements.{All-cons}
@@ -13,7 +13,8 @@ use Rattle.mencius_draw.specs.Facts.{fact_of}
 use Rattle.mencius_draw.specs.Laws.{IsStack, KeepsApart, event_level, label_level, levels_by}
 use Rattle.mencius_draw.specs.Layout.{Outline, end_of, event_spot, is_drawn, lines_of, next_line, outcome_spot, shapes_of, spot_after, start}
 
--- each number is at least so great, greater than the one before, and below a limit
+-- the numbers rise strictly, start at `least` or higher, and are less than `most`. If there are none, `least` is at
+-- most `most`
 abbrev Rises : ℕ → ℕ → List ℕ → Type 0
 Rises least most [] = least ≤ most
 Rises least most (x ∷ xs) = (least ≤ x) × Rises (x + 1) most xs
@@ -42,17 +43,18 @@ stack_of_rises : (least most : ℕ) (xs : List ℕ) → Rises least most xs → 
 stack_of_rises least most xs h =
     record { increasing = increasing_of_rises least most xs h; within = within_rises least most xs h }
 
--- the next outcome stands beside the newest event or below it, and the next event below both
+-- the level of the next event is either the level of the next outcome or the level after it
 record IsPen (pen : Spot) : Type 0 where
   low : pen.free ≤ pen.next
   near : pen.next ≤ pen.free + 1
 
--- what is drawn from a spot on stands below what was drawn before, and above a limit
+-- the events of these lines have rising levels from `pen.next` on, their labels have rising levels from `pen.free` on,
+-- and all levels are less than `most`
 record IsBelow (pen : Spot) (most : ℕ) (xs : List Outline) : Type 0 where
   events : Rises pen.next most (levels_by event_level xs)
   labels : Rises pen.free most (levels_by label_level xs)
 
--- the lines behind one, and the level behind the last of them, by the spot where they begin
+-- from each spot at which the lines `rest` may begin, their levels rise and are less than the level `end`
 record IsRest (rest : Spot → List Outline) (end : Spot → ℕ) : Type 0 where
   below : (pen : Spot) → IsPen pen → IsBelow pen (end pen) (rest pen)
 
@@ -73,7 +75,7 @@ event_line line pen place server act is_refused false rest end p h =
     let later = h.below (event_spot pen false place server) (record { low = omega arith; near = omega arith }) in
     record { events = later.events; labels = rises_from_less pen.free pen.next _ _ p.low later.labels }
 
--- of an event that is drawn, or not
+-- the spot `pen` with another value of `is_shown`
 abbrev of_shown : Spot → Bool → Spot
 of_shown pen is_shown = record pen { is_shown = is_shown }
 
@@ -90,7 +92,7 @@ label_line line fact pen false rest end no_event a_label p h =
     let later = h.below (of_shown pen false) (record { low = p.low; near = p.near }) in
     record { events = later.events; labels = later.labels }
 
--- a line of which nothing is drawn
+-- if a line has no event and no label, the levels still rise with this line in front of the rest
 bare_line : (line : List ℕ) (fact : Fact) (pen : Spot) (is_shown : Bool) (rest : Spot → List Outline) (end : Spot → ℕ)
     → event_level fact pen.level ≡ None → label_level fact pen.level ≡ None → IsPen pen → IsRest rest end
     → let spot = of_shown pen is_shown in IsBelow pen (end spot) (put_line line fact spot rest)

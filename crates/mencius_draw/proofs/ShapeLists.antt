@@ -1,4 +1,4 @@
--- The shapes of lines, and the messages among them, as they are made one by one.
+-- Loops over the lines of a trace make its shapes, its messages, its last spot and the reach of its labels.
 use Rattle.std.proofs.Common.{◌≡◌, ◌<◌, ◌≤◌, ◌==◌, ℕ, ◌+◌, ◌-◌, ◌^◌, Bool, true, false, List, [], ◌∷◌, ◌++◌, Option, Some, None, ap, sym, refl, subst, ◌∙◌, append-nil, append_assoc, arith, length, drop, get_or, filter_map, map, if◌then◌else◌}
 use Rattle.std.specs.Prelude.{max}
 use Rattle.std.proofs.lemmas.List.{drop_all}
@@ -19,7 +19,7 @@ use Rattle.mencius_draw.proofs.Passes.{rest_begins_at}
 
 -- ---- shapes
 
--- how far the levels may have come
+-- the level of the next outcome and the level of the next event are both at most n
 pub record IsBelow (n : ℕ) (pen : Spot) : Type 0 where
   pub free : pen.free ≤ n
   pub next : pen.next ≤ n
@@ -56,7 +56,7 @@ pub first_of : (all : List (List ℕ)) (d : List ℕ) → 0 < length all → get
 first_of [] d h = absurd (omega (arith, h))
 first_of (line ∷ ls) d h = refl
 
--- a line that says nothing, before the first one
+-- an empty line has no fact that a picture shows. The loops begin with an empty line before the first line
 nothing_said : (next : List ℕ) → fact_of [] next ≡ Other
 unfolding fact_of note_of word number
 nothing_said next = refl
@@ -73,7 +73,9 @@ shapes_behind_nothing o all =
     let x : Outline = record { line = []; fact = fact; spot = spot_after o start fact } in
     if_needed x ++ flat_map if_needed (shapes_of o x.spot all)) (nothing_said (next_line all))
 
--- after so many lines the last of them, whose next line is not known yet, and the rest
+-- i lines were read, and `line` is the last of them. The loop has not handled `line` yet, because it does not know the
+-- next line. The spot after this line and the remaining lines is the spot after the whole trace. The levels so far are
+-- at most i
 pub record IsPassed (o : Options) (all : List (List ℕ)) (i : ℕ) (pen : Spot) (line : List ℕ) : Type 0 where
   pub end : end_of o pen (line ∷ drop i all) ≡ end_of o start ([] ∷ all)
   pub below : IsBelow i pen
@@ -111,12 +113,12 @@ pub passed_last : (o : Options) (all : List (List ℕ)) (i : ℕ) (pen new : Spo
 passed_last o all i pen new line e got had =
     got ∙ ap (λ ls. end_of o pen (line ∷ ls)) (sym (drop_all i all (omega (arith, e)))) ∙ had.end ∙ end_behind_nothing o all
 
--- a spot has room for one more level
+-- a spot has room for another level
 pub record HasRoom (pen : Spot) : Type 0 where
   pub free : pen.free < 2 ^ 64 - 1
   pub next : pen.next < 2 ^ 64 - 1
 
--- and so has one behind so many lines of a text
+-- the spot after i lines of a text has room for another level, because a text has fewer than 2 ^ 63 bytes
 pub is_room : (text : List ℕ) (i : ℕ) (pen : Spot) → length text < 2 ^ 63 → i ≤ length (lines_of text) → IsBelow i pen
     → HasRoom pen
 is_room text i pen few passed below =
@@ -127,7 +129,7 @@ is_room text i pen few passed below =
       next = omega (arith, few, passed, lines, breaks, below.next);
     }
 
--- the shapes of them that are needed, and of the rest
+-- the shapes so far and the needed shapes of the remaining lines are together the needed shapes of the whole trace
 abbrev pub AreShapes : Options → List (List ℕ) → ℕ → Spot → List ℕ → List Shape → Type 0
 AreShapes o all i pen line made =
     map outline made ++ flat_map if_needed (shapes_of o pen (line ∷ drop i all))
@@ -176,7 +178,8 @@ one_more : (old : List SentMessage) (o : Option SentMessage) (rest : List SentMe
 one_more old None rest = ap (λ xs. xs ++ rest) (append-nil old)
 one_more old (Some s) rest = append_assoc old (s ∷ []) rest
 
--- the messages so far get that of the next shape, if it is one
+-- if the message of the next shape is added, the messages so far and the remaining messages still make the whole list.
+-- If the next shape is not a message, no message is added
 pub sents_further : (xs : List Shape) (i : ℕ) (d : Shape) (old new whole : List SentMessage) → i < length xs
     → old ++ filter_map sent_here (map outline (drop i xs)) ≡ whole
     → new ≡ old ++ cons_option (sent_here (outline (get_or xs i d))) []
@@ -188,7 +191,8 @@ sents_further xs i d old new whole h had got =
 
 -- ---- how far labels reach
 
--- what was found so far, and what the rest still gives
+-- the greater of the reach so far and the reach of the remaining labels is the reach of all labels. The reach so far is
+-- less than 10,000
 pub record IsReach (so_far rest whole : ℕ) : Type 0 where
   pub is : max so_far rest ≡ whole
   pub bound : so_far < 10000

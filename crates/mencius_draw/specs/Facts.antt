@@ -1,4 +1,4 @@
--- What the lines of a trace say, as far as a picture shows it.
+-- The facts in the lines of a trace that a picture shows.
 use Rattle.std.specs.Prelude.{ℕ, ◌||◌, List, Bool, codes, Option, Some, None, if◌then◌else◌}
 use Rattle.std.specs.Str.{bytes_eq}
 use Rattle.mencius_draw.specs.Words.{number, word}
@@ -31,7 +31,7 @@ kind_of name =
     else (if bytes_eq name (codes "Learn") then Some Learn
     else None))))))
 
--- an act by its name and the two numbers behind it, and the server at which it happens
+-- the act that a name and the two numbers after it mean, and the server of the act. None for an unknown name
 unfoldable pub act_by : List ℕ → ℕ → ℕ → Option (Act × ℕ)
 act_by name first second =
     if bytes_eq name (codes "submit") then Some (Submit, first)
@@ -49,7 +49,8 @@ abbrev pub event_at : ℕ → Bool → Option (Act × ℕ) → Fact
 event_at place is_refused None = Other
 event_at place is_refused (Some (act, server)) = Event place act server is_refused
 
--- behind a refused event stands the refusal and nothing else
+-- the event in a line. After a refused event, a trace has the refusal and no other outcome. So the next line shows
+-- whether the event was refused
 abbrev pub event_of : List ℕ → List ℕ → Fact
 event_of line next = event_at (number (word 1 line)) (bytes_eq (word 0 next) (codes "refused")) (act_of line)
 
@@ -57,7 +58,7 @@ abbrev pub sent_fact : ℕ → ℕ → ℕ → Option Kind → Fact
 sent_fact number from inst None = Other
 sent_fact number from inst (Some kind) = Sent number kind from inst
 
--- a message's number, sender and instance, of a Skip the first one
+-- the message in a line, with its number, kind, sender and instance. The instance of a Skip is its first one
 abbrev pub sent_of : List ℕ → Fact
 sent_of line =
     sent_fact (number (word 1 line)) (number (word 4 line)) (number (word 8 line)) (kind_of (word 2 line))
@@ -79,7 +80,7 @@ outcome_fact (Some note) = Outcome note
 abbrev pub outcome_of : List ℕ → Fact
 outcome_of line = outcome_fact (note_of (word 0 line) (number (word 3 line)))
 
--- what a line says that stands before the next one
+-- the fact in a line, given the line after it
 unfoldable pub fact_of : List ℕ → List ℕ → Fact
 fact_of line next =
     if bytes_eq (word 0 line) (codes "event") then event_of line next

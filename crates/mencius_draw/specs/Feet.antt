@@ -1,4 +1,4 @@
--- What each server came to, below its lane.
+-- The cards below the lanes. Each card shows the progress of a server at the end of the trace.
 use Rattle.std.specs.Prelude.{ℕ, ◌==◌, ◌&&◌, List, [], ◌∷◌, ◌++◌, codes, decimal, not, if◌then◌else◌}
 use Rattle.std.specs.List.{flat_map}
 use Rattle.std.specs.Str.{bytes_eq}
@@ -9,7 +9,7 @@ use Rattle.mencius_draw.specs.Layout.{Outline}
 use Rattle.mencius_draw.specs.Places.{transform_below}
 use Rattle.mencius_draw.specs.Words.{fixed_text, number, plain_text, plain_word, rest, word}
 
--- a server's command behind a space, and nothing for no-op or another server's
+-- a space and the command in a line, if the line names this server and the value is not no-op. Otherwise empty
 abbrev pub command_of : ℕ → List ℕ → List ℕ
 command_of server line =
     if number (word 1 line) == server && not (bytes_eq (word 5 line) (codes "no-op")) then 32 ∷ plain_word 5 line
@@ -22,7 +22,7 @@ executed_in server line _ = []
 abbrev pub executed_by : ℕ → Outline → List ℕ
 executed_by server x = executed_in server x.line x.fact
 
--- the commands that the server executed, in order
+-- the commands that the server executed, in the order of the lines, each after a space
 abbrev pub history_text : ℕ → List Outline → List ℕ
 history_text server xs = flat_map (executed_by server) xs
 
@@ -33,16 +33,17 @@ unheard_in wanted _ = []
 abbrev pub unheard_at : ℕ → Outline → List ℕ
 unheard_at server x = unheard_in server x.fact
 
--- the messages that it neither heard nor lost
+-- the numbers of the messages that the server neither heard nor lost, each after a space
 abbrev pub unheard_text : ℕ → List Outline → List ℕ
 unheard_text server xs = flat_map (unheard_at server) xs
 
--- items behind a space each, or a dash
+-- the items, each after a space, or a space and a dash if the list is empty
 abbrev pub list_text : List ℕ → List ℕ
 list_text [] = codes " -"
 list_text (b ∷ bs) = b ∷ bs
 
--- the foot of a server, with the line of how far it is, its history and what it did not hear
+-- the card of a server, with the numbers in its closing line, its history, its waiting commands and its unheard
+-- messages
 abbrev pub foot_at : ℕ → ℕ → List ℕ → ℕ → List ℕ → List ℕ → List ℕ
 foot_at servers levels line server history unheard =
     fixed_text (codes "<g class='foot' ") ++ transform_below servers server levels 4
@@ -58,6 +59,6 @@ foot_in servers levels xs line (Closing server) =
     foot_at servers levels line server (history_text server xs) (unheard_text server xs)
 foot_in servers levels xs line _ = []
 
--- a foot, where the line says how far a server is in the end
+-- the card of a server if the line shows the server's progress at the end, and empty for any other line
 abbrev pub foot_text : ℕ → ℕ → List Outline → Outline → List ℕ
 foot_text servers levels xs x = foot_in servers levels xs x.line x.fact

@@ -1,4 +1,4 @@
--- What stands around the events.
+-- The parts around the events. These are the head, the lanes, a rule above each event, and the key.
 use Rattle.std.specs.Prelude.{ℕ, ◌+◌, ◌-◌, List, [], ◌++◌, codes, decimal, if◌then◌else◌}
 use Rattle.std.specs.List.{flat_map, range_with_len}
 use Rattle.mencius_draw.specs.declared.colours.TheConstants.{COLOURS, DARK_COLOURS, DEFINITIONS, KEY, RULES}
@@ -31,7 +31,7 @@ svg_text servers width levels =
     ++ number_between (codes "' role='img'>\n<title>Space-time diagram of a schedule; servers: ") servers
     (codes "</title>\n")
 
--- all that comes before the first rule
+-- the head of a picture, which comes before the first rule
 abbrev pub head : Scheme → ℕ → ℕ → ℕ → List ℕ
 head scheme servers width levels =
     svg_text servers width levels ++ fixed_text (codes "<style>\n") ++ scheme_text scheme ++ RULES.now ++ colours scheme
@@ -47,7 +47,7 @@ abbrev pub fact_rule : ℕ → ℕ → Fact → List ℕ
 fact_rule width level (Event place act server is_refused) = rule_at width level
 fact_rule width level _ = []
 
--- the rule above an event that is drawn
+-- the rule above an event that is drawn, and empty for any other line
 abbrev pub rule_text : ℕ → Outline → List ℕ
 rule_text width x = if x.spot.is_shown then fact_rule width x.spot.level x.fact else []
 

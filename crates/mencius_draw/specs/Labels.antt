@@ -1,4 +1,4 @@
--- The short texts beside marks, by the words of their lines.
+-- The labels, which are short texts next to marks. They are made from the words of their lines.
 use Rattle.std.specs.Prelude.{ℕ, List, ◌∷◌, ◌++◌, codes, decimal, if◌then◌else◌}
 use Rattle.std.specs.Str.{bytes_eq}
 use Rattle.mencius_draw.specs.Words.{plain_text, plain_word, rest, word}
@@ -16,7 +16,7 @@ vote_label line =
     if bytes_eq (word 12 line) (codes "none") then codes " no vote"
     else codes " voted " ++ plain_word 13 line ++ codes "@b" ++ plain_word 12 line
 
--- what a message says
+-- the content of a message, which depends on its kind
 abbrev pub content_label : Kind → List ℕ → List ℕ
 content_label Suggest line = at_ballot (word 8 line) (word 10 line) ++ 32 ∷ plain_word 12 line
 content_label Skip line = codes " i" ++ plain_word 8 line ++ codes " until i" ++ plain_word 10 line
@@ -37,7 +37,7 @@ count_label line =
 abbrev pub learned_label : List ℕ → List ℕ
 learned_label line = plain_word 0 line ++ codes " i" ++ plain_word 3 line ++ codes " = " ++ plain_word 5 line
 
--- a word of ours, and what the line says behind its first word
+-- a fixed name, and then the rest of the line after its first word
 abbrev pub label_about : List ℕ → List ℕ → List ℕ
 label_about name line = name ++ plain_text (rest 1 line)
 

@@ -1,4 +1,4 @@
--- Where each line of a trace is drawn. Levels are counted downwards.
+-- The position of each line of a trace in the picture. Levels are counted downwards.
 use Rattle.std.specs.Prelude.{ℕ, ◌+◌, ◌==◌, ◌&&◌, ◌||◌, List, [], ◌∷◌, Bool, true, false, Option, Some, None, nat_le, if◌then◌else◌}
 use Rattle.std.specs.List.{filter_map, slice_split}
 use Rattle.mencius_draw.specs.declared.facts.Fact.{Fact}
@@ -10,7 +10,7 @@ use Rattle.mencius_draw.specs.declared.layout.SentMessage.{SentMessage}
 use Rattle.mencius_draw.specs.declared.options.Options.{Options}
 use Rattle.mencius_draw.specs.Facts.{fact_of}
 
--- a line, what it says, and where it is drawn
+-- a line, its fact, and its position in the picture
 pub record Outline : Type 0 where
   pub line : List ℕ
   pub fact : Fact
@@ -25,7 +25,7 @@ start = record { place = 0; server = 0; is_shown = false; top = 0; level = 0; fr
 abbrev pub is_drawn : Options → ℕ → Bool
 is_drawn o place = nat_le o.first place && nat_le place o.last
 
--- an event begins where nothing stands yet
+-- the spot of an event, which begins at level `pen.next`. If the event is drawn, the next event begins below it
 abbrev pub event_spot : Spot → Bool → ℕ → ℕ → Spot
 event_spot pen is_shown place server = record {
   place = place;
@@ -37,7 +37,8 @@ event_spot pen is_shown place server = record {
   next = if is_shown then pen.next + 1 else pen.next;
 }
 
--- its first outcome stands beside it, each further one a level below, and the next event below them all
+-- the spot of an outcome. If its event is drawn, the first outcome is at the level of the event, and each further
+-- outcome is one level lower. The next event is below them all
 abbrev pub outcome_spot : Spot → Spot
 outcome_spot pen =
     if pen.is_shown then record pen { level = pen.free; free = pen.free + 1; next = pen.free + 1 } else pen
@@ -65,17 +66,18 @@ shape_of o pen line next = record {
 abbrev pub shape_at : Options → Spot → List ℕ → List (List ℕ) → Outline
 shape_at o pen line ls = shape_of o pen line (next_line ls)
 
--- the lines from a spot on, each with what it says and where it is drawn
+-- the lines that come after the spot `pen`, each with its fact and its position in the picture
 abbrev pub shapes_of : Options → Spot → List (List ℕ) → List Outline
 shapes_of o pen [] = []
 shapes_of o pen (line ∷ ls) = shape_at o pen line ls ∷ shapes_of o (shape_at o pen line ls).spot ls
 
--- the spot behind the last of them
+-- the spot after the last line, if the lines come after the spot `pen`
 abbrev pub end_of : Options → Spot → List (List ℕ) → Spot
 end_of o pen [] = pen
 end_of o pen (line ∷ ls) = end_of o (shape_at o pen line ls).spot ls
 
--- what is told at the foot, and a message, which an arrow may look for wherever it was sent
+-- whether a picture needs a fact even if its event is not drawn. The foot may show the fact, or an arrow may need its
+-- message
 abbrev pub is_told_below : Fact → Bool
 is_told_below (Sent number kind from inst) = true
 is_told_below (Outcome (Executed inst)) = true
@@ -86,7 +88,7 @@ is_told_below _ = false
 abbrev pub is_needed : Outline → Bool
 is_needed x = x.spot.is_shown || is_told_below x.fact
 
--- a line that a picture needs, and nothing for any other
+-- a list of the line if a picture needs it, and the empty list otherwise
 abbrev pub if_needed : Outline → List Outline
 if_needed x = if is_needed x then x ∷ [] else []
 
@@ -98,6 +100,6 @@ sent_as _ spot = None
 abbrev pub sent_here : Outline → Option SentMessage
 sent_here x = sent_as x.fact x.spot
 
--- the messages that were sent, by rising number
+-- the messages that were sent, in the order of the lines
 abbrev pub sents_of : List Outline → List SentMessage
 sents_of xs = filter_map sent_here xs

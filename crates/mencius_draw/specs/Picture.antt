@@ -14,15 +14,15 @@ use Rattle.mencius_draw.specs.Places.{most_levels, width_of}
 use Rattle.mencius_draw.specs.Ways.{way_text}
 use Rattle.mencius_draw.specs.Words.{number, word}
 
--- how many servers the first line says that there are; there is room for seven
+-- the number of servers in the first line, but at most 7, because a picture has room for seven lanes
 abbrev pub servers_of : List (List ℕ) → ℕ
 servers_of lines = min (number (word 1 (next_line lines))) 7
 
--- the levels that a part of a trace takes
+-- the number of levels that a part of a trace takes
 abbrev pub levels_of : Options → List (List ℕ) → ℕ
 levels_of o lines = (end_of o start lines).next
 
--- the texts of the shapes, one after the other: rules and lanes lie under arrows, and arrows under labels
+-- the texts of all parts in order, so that arrows lie above rules and lanes, and labels lie above arrows
 abbrev pub picture_text : Scheme → ℕ → ℕ → List SentMessage → List Outline → List ℕ
 picture_text scheme servers levels sents xs =
     let width = width_of servers (greatest_reach servers xs) in
@@ -35,11 +35,12 @@ picture_of_lines o lines =
     let xs = shapes_of o start lines in
     picture_text o.scheme (servers_of lines) (levels_of o lines) (sents_of xs) xs
 
--- the picture of a trace
+-- the text of the picture of a trace
 unfoldable pub picture_of : Options → List ℕ → List ℕ
 picture_of o trace = picture_of_lines o (lines_of trace)
 
--- a picture, or a refusal that says how many levels it needs; never one in place of the other
+-- if the part takes at most `most_levels` levels, the result is the text of the picture. Otherwise, it is the number of
+-- levels that the part takes
 abbrev pub IsPicture : Options → List ℕ → Result (String Global) TooLarge → Type 0
 IsPicture o trace (Ok text) =
     (levels_of o (lines_of trace) ≤ most_levels) × (string_bytes text ≡ picture_of o trace)

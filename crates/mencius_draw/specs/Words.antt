@@ -1,4 +1,4 @@
--- The words of a line of a trace: one space stands between each and the next.
+-- The words of a line of a trace. One space separates each word from the next.
 use Rattle.std.specs.Prelude.{ℕ, zero, suc, ◌+◌, ◌-◌, ◌*◌, ◌^◌, ◌==◌, ◌&&◌, ◌||◌, List, [], ◌∷◌, ◌++◌, Bool, Option, Some, None, decimal, nat_le, min, map, take, drop, if◌then◌else◌}
 use Rattle.std.specs.List.{position}
 
@@ -10,20 +10,20 @@ abbrev pub cut_before : List ℕ → Option ℕ → List ℕ
 cut_before line None = line
 cut_before line (Some place) = take place line
 
--- what stands behind the first space
+-- the rest of a line after the first space, which is empty if the line has no space
 abbrev pub behind_first_word : List ℕ → List ℕ
 behind_first_word line = cut_behind line (position (λ b. b == 32) line)
 
--- what stands before it
+-- the part of a line before the first space, or the whole line if it has no space
 abbrev pub first_word : List ℕ → List ℕ
 first_word line = cut_before line (position (λ b. b == 32) line)
 
--- what stands behind so many words
+-- the rest of a line after its first n words
 abbrev pub rest : ℕ → List ℕ → List ℕ
 rest zero line = line
 rest (suc n) line = behind_first_word (rest n line)
 
--- the word at a place
+-- the word at a place of a line, counted from 0. It is empty if the line has fewer words
 unfoldable pub word : ℕ → List ℕ → List ℕ
 word place line = first_word (rest place line)
 
@@ -34,27 +34,27 @@ abbrev pub number_from : ℕ → List ℕ → ℕ
 number_from n [] = n
 number_from n (b ∷ bs) = number_from (min (min (n * 10) greatest_number + (b - 48)) greatest_number) bs
 
--- the number that digits are, at most the greatest of 32 bits
+-- the number that the digits write, but at most the greatest number of 32 bits
 unfoldable pub number : List ℕ → ℕ
 number bytes = number_from 0 bytes
 
 abbrev pub is_between : ℕ → ℕ → ℕ → Bool
 is_between first last b = nat_le first b && nat_le b last
 
--- the bytes of which a trace is made
+-- whether a byte is a letter, a digit or a mark that a trace may contain
 abbrev pub is_plain : ℕ → Bool
 is_plain b =
     is_between 97 122 b || is_between 65 90 b || is_between 48 57 b
     || b == 32 || b == 45 || b == 46 || b == 61 || b == 95
 
--- such a byte stands for itself, and for any other a question mark
+-- a plain byte as it is, and a question mark for any other byte
 unfoldable pub plain_byte : ℕ → ℕ
 plain_byte b = if is_plain b then b else 63
 
 abbrev pub plain_text : List ℕ → List ℕ
 plain_text bytes = map plain_byte bytes
 
--- a word of a line, as a picture has it
+-- the word at a place of a line, as a picture shows it
 abbrev pub plain_word : ℕ → List ℕ → List ℕ
 plain_word place line = plain_text (word place line)
 
@@ -62,6 +62,6 @@ plain_word place line = plain_text (word place line)
 unfoldable pub fixed_text : List ℕ → List ℕ
 fixed_text text = text
 
--- a number between two such texts
+-- a number in decimal digits, between two texts that are always the same
 unfoldable pub number_between : List ℕ → ℕ → List ℕ → List ℕ
 number_between before number after = fixed_text before ++ decimal number ++ fixed_text after

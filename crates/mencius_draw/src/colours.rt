@@ -1,6 +1,6 @@
-//! The fixed parts of a picture: how it looks, its points, and its key.
+//! The fixed parts of a picture. These are its styles, the points of its arrows, and its key.
 
-/// What does not hang on light or dark. A message's kind is told by line, point and name.
+/// The styles that do not depend on light or dark. The line, the point and the name of a message show its kind.
 pub(crate) const RULES: &str = "\
 text{font:12px sans-serif}
 .place,.what,.says,.cause,.foot text{font-family:monospace}
@@ -29,7 +29,8 @@ text{font:12px sans-serif}
 .sent .tick{stroke-width:2}
 ";
 
-/// The colours on light; in a reader that knows `light-dark()` and is to choose, also those on dark.
+/// The colours on light. Also the colours on dark, which a viewing program uses if it knows `light-dark()` and the
+/// scheme is `Both`.
 pub(crate) const COLOURS: &str = "\
 text{fill:#1f2933;fill:light-dark(#1f2933,#e4e8ec)}
 .place,.owns,.cause,.what{fill:#55606c;fill:light-dark(#55606c,#a7b1bb)}
@@ -115,7 +116,7 @@ stop{stop-color:#15191e}
 .on{fill:#101418}
 ";
 
-/// The points of arrows, by kind and owner, and what clips the texts that may be too long.
+/// The points of arrows, by kind and owner. Also the definitions that cut off texts that may be too long.
 pub(crate) const DEFINITIONS: &str = "\
 <defs>
 <marker id='full0' viewBox='0 0 12 12' refX='10.5' refY='6' markerWidth='12' markerHeight='12' markerUnits='userSpaceOnUse' orient='auto'><path class='f0' d='M1 1L11 6L1 11z'/></marker>
@@ -145,7 +146,8 @@ pub(crate) const DEFINITIONS: &str = "\
 </defs>
 ";
 
-/// What lines, points, marks and colours mean, and before that what the cards below the lanes are.
+/// The key, which explains the lines, points, marks and colours. Its first text is the heading of the cards below the
+/// lanes.
 pub(crate) const KEY: &str = "\
 <text x='38' y='-112'>at the end of the whole schedule:</text>
 <g transform='translate(0 0)'><path class='way Suggest' d='M0 0H27'/><path class='full' d='M26 -5L36 0L26 5z'/><text x='42' y='4'>Suggest</text></g>

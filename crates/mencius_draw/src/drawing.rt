@@ -19,7 +19,7 @@ use crate::ways::push_way;
 use crate::words::{number, word};
 use std::alloc::{AllocError, Global};
 
-// How far to the right what is drawn of the lines reaches.
+// Returns how far to the right the labels of the shapes reach, in the picture's units, or 0 if no label is drawn.
 fn greatest_reach(alloc: Global, servers: u32, shapes: &[Shape]) -> Result<usize, AllocError>
     ensures value { IfOk result (λ reach. reach ≡ greatest_reach servers (map outline shapes.now)) }
     ensures bound { IfOk result (λ reach. reach < 10000) }
@@ -88,7 +88,7 @@ fn push_feet(
     Ok(())
 }
 
-// How many servers the first line says that there are; a picture has no room for more than seven.
+// Returns the number of servers in the first line of a trace, but at most 7. A picture has room for seven lanes.
 fn servers_of(trace: &str) -> u32
     ensures { result ≡ servers_of (lines_of trace.now) }
 {
@@ -119,16 +119,17 @@ fn picture_text(
     Ok(text)
 }
 
-/// The picture of a trace, as the text of an SVG file: a lane for each server, time downwards, an event a level and
-/// a level for each further outcome, an arrow for each delivery and each loss.
+/// Returns the picture of a trace, as the text of an SVG file. Each server has a lane, and time runs downwards. An
+/// event takes one level, and another for each outcome after the first. Each delivery and each loss has an arrow.
 ///
-/// The event of place I stands in one element `<g id='eI'>`, and the message of number K in one `<g id='mK'>`; all
-/// that belongs to an event has its place as `data-e`. Of a long trace the events from `first` to `last` are drawn,
-/// and no other; what stands at the foot is the end of the whole trace. A line that no trace has is passed over.
+/// The event at place I is one element `<g id='eI'>`, and message number K is one element `<g id='mK'>`. An event, its
+/// outcomes and its arrow have the place of the event as `data-e`. Only the events from `first` to `last` are drawn.
+/// The foot shows the end of the whole trace. A line that does not occur in any trace is skipped.
 ///
-/// A part that takes more than `MOST_LEVELS` levels is refused, with the number that it takes; that takes no memory. A
-/// picture takes memory for its text, for each line of what is drawn, and of the rest for each message, each command that
-/// was executed and each line of the end; and time for each line of the trace.
+/// If the part takes more than `MOST_LEVELS` levels, the call returns `TooLarge` with the number of levels. This does
+/// not allocate. A picture allocates memory for its text and for each line of the events that it draws. Apart from
+/// these lines, it allocates memory for each message, each executed instance and each line about the end. It takes time
+/// for each line of the trace.
 #[tactic(auto, unfolding(crate::specs::Picture::picture_of))]
 pub fn picture(
     alloc: Global,

@@ -1,11 +1,11 @@
-//! What the lines of a trace say, as far as a picture shows it.
+//! The facts in the lines of a trace that a picture shows.
 
 ghost use Rattle.std.specs.Prelude.{◌≡◌};
 ghost use Rattle.mencius_draw.specs.Facts.{act_of, event_of, fact_of, kind_name, kind_of, note_of, outcome_of, sent_of};
 
 use crate::words::{is_word, number, word};
 
-/// What a message is.
+/// The kind of a message.
 #[derive(Clone, Copy, Drop)]
 pub(crate) enum Kind {
     Suggest,
@@ -18,7 +18,7 @@ pub(crate) enum Kind {
 }
 
 impl Kind {
-    /// As traces write it.
+    /// Returns the name of the kind, as traces write it.
     pub(crate) fn name(self) -> &'static str
         ensures { result.now ≡ kind_name self }
     {
@@ -34,7 +34,8 @@ impl Kind {
     }
 }
 
-/// What an event is; of a delivery and a loss the number of the message, of a suspicion the suspected server.
+/// The act of an event. A delivery and a loss have the number of the message. A suspicion has the number of the
+/// suspected server.
 #[derive(Clone, Copy, Drop)]
 pub(crate) enum Act {
     Submit,
@@ -45,7 +46,8 @@ pub(crate) enum Act {
     Execute,
 }
 
-/// What is written beside the mark of an event.
+/// An outcome of an event, other than a sent message. It is written next to the event's mark. `Learned` and `Executed`
+/// have the instance.
 #[derive(Clone, Copy, Drop)]
 pub(crate) enum Note {
     Refused,
@@ -56,7 +58,7 @@ pub(crate) enum Note {
     Executed(u32),
 }
 
-/// What a line says.
+/// The fact in a line of a trace.
 #[derive(Clone, Copy, Drop)]
 pub(crate) enum Fact {
     Event {
@@ -65,23 +67,23 @@ pub(crate) enum Fact {
         server: u32,
         is_refused: bool,
     },
-    /// A message was sent.
+    /// A message was sent. For a Skip, `inst` is the first instance.
     Sent {
         number: u32,
         kind: Kind,
         from: u32,
         inst: u32,
     },
-    /// Some other outcome of an event.
+    /// An outcome of an event, other than a sent message.
     Outcome(Note),
-    /// How far a server is in the end.
+    /// The line that shows the progress of a server at the end of the trace. It has the number of the server.
     Closing(u32),
     /// A message that a server neither heard nor lost.
     Unheard {
         number: u32,
         server: u32,
     },
-    /// Nothing that is drawn.
+    /// A line that is not drawn.
     Other,
 }
 
@@ -108,7 +110,7 @@ fn kind_of(name: &[u8]) -> Option<Kind>
     }
 }
 
-// The act of an event's line, and its server.
+// Returns the act in an event's line, and the server of the act. `None` if the act is unknown.
 #[tactic(auto, unfolding(crate::specs::Facts::act_by))]
 fn act_of(line: &[u8]) -> Option<(Act, u32)>
     ensures { result ≡ act_of line.now }
@@ -133,7 +135,8 @@ fn act_of(line: &[u8]) -> Option<(Act, u32)>
     }
 }
 
-// Behind a refused event stands the refusal and nothing else.
+// Reads the event in `line`. After a refused event, a trace has the refusal and no other outcome. So `next` shows
+// whether the event was refused.
 fn event_of(line: &[u8], next: &[u8]) -> Fact
     ensures { result ≡ event_of line.now next.now }
 {
@@ -192,7 +195,7 @@ fn outcome_of(line: &[u8]) -> Fact
     }
 }
 
-/// What a line says, before which other line it stands.
+/// Returns the fact in `line`. `next` is the line after it, which shows whether an event was refused.
 #[tactic(auto, unfolding(crate::specs::Facts::fact_of))]
 pub(crate) fn fact_of(line: &[u8], next: &[u8]) -> Fact
     ensures { result ≡ fact_of line.now next.now }

@@ -1,4 +1,4 @@
-//! What each server came to, below its lane.
+//! The cards below the lanes. Each card shows the progress of a server at the end of the trace.
 
 ghost use Rattle.std.specs.Prelude.{◌≡◌, ◌++◌, map, IfOk, OnOk, string_bytes};
 ghost use Rattle.mencius_draw.specs.Layout.{outline};
@@ -10,7 +10,7 @@ use crate::places::push_transform_below;
 use crate::words::{is_word, number, push_fixed, push_plain, push_rest, push_word, word};
 use std::alloc::{AllocError, Global};
 
-// The command that a line says the server executed.
+// Adds the command that the line reports as executed at `server`. Adds no text for a no-op or any other line.
 fn push_executed(text: &mut String, server: u32, shape: &Shape) -> Result<(), AllocError>
     ensures { OnOk result (string_bytes text.new
         ≡ string_bytes text.old ++ executed_by server (outline shape.now)) }
@@ -38,7 +38,7 @@ fn history_of(alloc: Global, server: u32, shapes: &[Shape]) -> Result<String, Al
     Ok(text)
 }
 
-// The message that a line says the server did not hear.
+// Adds the number of the message if the line reports that `wanted` neither heard nor lost it.
 fn push_unheard_at(text: &mut String, wanted: u32, shape: &Shape) -> Result<(), AllocError>
     ensures { OnOk result (string_bytes text.new
         ≡ string_bytes text.old ++ unheard_at wanted (outline shape.now)) }
@@ -59,7 +59,7 @@ fn unheard_of(alloc: Global, server: u32, shapes: &[Shape]) -> Result<String, Al
     Ok(text)
 }
 
-// The items of a list, each behind a space, or a dash.
+// Adds the items of a list, each after a space. Adds a dash if the list is empty.
 fn push_list(text: &mut String, items: &str) -> Result<(), AllocError>
     ensures { OnOk result (string_bytes text.new ≡ string_bytes text.old ++ list_text items.now) }
 {
@@ -126,7 +126,7 @@ fn push_foot_at(
     )
 }
 
-/// Adds the foot of a server where the line says how far it is in the end, and nothing for any other line.
+/// Adds the card of a server if the line shows the server's progress at the end. Adds no text for any other line.
 pub(crate) fn push_foot(
     alloc: Global,
     text: &mut String,

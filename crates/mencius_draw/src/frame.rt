@@ -1,4 +1,4 @@
-//! What stands around the events: the head, the lanes, a rule above each event, and the key.
+//! The parts around the events. These are the head, the lanes, a rule above each event, and the key.
 
 ghost use Rattle.std.specs.Prelude.{◌≡◌, ◌++◌, ◌<◌, ◌≤◌, OnOk, string_bytes};
 ghost use Rattle.mencius_draw.specs.Layout.{outline};
@@ -43,7 +43,7 @@ fn push_colours(text: &mut String, scheme: Scheme) -> Result<(), AllocError>
     text.push_str(colours_of(scheme))
 }
 
-// Room for the cards and the key lies below the levels.
+// Adds the width and the height of the picture. The height leaves 250 units below the levels for the cards and the key.
 fn push_size(text: &mut String, width: usize, levels: usize) -> Result<(), AllocError>
     ensures { OnOk result (string_bytes text.new ≡ string_bytes text.old ++ size_text width levels) }
 {
@@ -67,7 +67,8 @@ fn push_svg(text: &mut String, servers: u32, width: usize, levels: usize) -> Res
     )
 }
 
-/// Adds all that comes before the first rule.
+/// Adds the head, which comes before the first rule. It contains the title, the styles, the definitions and the
+/// background.
 pub(crate) fn push_head(
     text: &mut String,
     scheme: Scheme,
@@ -99,7 +100,7 @@ fn push_rule_at(text: &mut String, width: usize, level: usize) -> Result<(), All
     push_fixed(text, "'/>\n")
 }
 
-/// Adds the rule above an event that is drawn, and nothing for any other line.
+/// Adds a rule above an event that is drawn. Adds no text for any other line.
 pub(crate) fn push_rule(text: &mut String, width: usize, shape: &Shape) -> Result<(), AllocError>
     ensures { OnOk result (string_bytes text.new
         ≡ string_bytes text.old ++ rule_text width (outline shape.now)) }
@@ -113,7 +114,7 @@ pub(crate) fn push_rule(text: &mut String, width: usize, shape: &Shape) -> Resul
     }
 }
 
-// A lane, with the name of its server at its head.
+// Adds a lane, with the name of its server at the top.
 fn push_lane(text: &mut String, servers: u32, levels: usize, server: u32) -> Result<(), AllocError>
     requires small { server < servers }
     requires few { servers ≤ 7 }
@@ -154,7 +155,7 @@ pub(crate) fn push_lanes(text: &mut String, servers: u32, levels: usize) -> Resu
     Ok(())
 }
 
-/// Adds what the lines, the points, the marks and the colours mean.
+/// Adds the key, which explains the lines, the points, the marks and the colours. Then closes the SVG element.
 pub(crate) fn push_key(text: &mut String, levels: usize) -> Result<(), AllocError>
     ensures { OnOk result (string_bytes text.new ≡ string_bytes text.old ++ key_text levels) }
 {

@@ -1,4 +1,4 @@
-//! The short texts beside marks.
+//! The labels, which are short texts next to marks.
 
 ghost use Rattle.std.specs.Prelude.{◌≡◌, ◌++◌, IfOk, OnOk, string_bytes};
 ghost use Rattle.mencius_draw.specs.Labels.{label_about, at_ballot, count_label, content_label, learned_label, note_class, note_label, sent_label, vote_label};
@@ -7,7 +7,7 @@ use crate::facts::{Kind, Note};
 use crate::words::{is_word, push_plain, rest, word};
 use std::alloc::{AllocError, Global};
 
-// An instance and a ballot, by the words that name them.
+// Adds an instance and a ballot. Both are words of a line.
 fn push_at_ballot(label: &mut String, inst: &[u8], ballot: &[u8]) -> Result<(), AllocError>
     ensures { OnOk result (string_bytes label.new
         ≡ string_bytes label.old ++ at_ballot inst.now ballot.now) }
@@ -30,7 +30,7 @@ fn push_vote(label: &mut String, line: &[u8]) -> Result<(), AllocError>
     push_plain(label, word(line, 12))
 }
 
-// What a message says.
+// Adds the content of a message. Its kind decides which words of the line are shown.
 fn push_content(label: &mut String, kind: Kind, line: &[u8]) -> Result<(), AllocError>
     ensures { OnOk result (string_bytes label.new ≡ string_bytes label.old ++ content_label kind line.now) }
 {
@@ -60,7 +60,7 @@ fn push_content(label: &mut String, kind: Kind, line: &[u8]) -> Result<(), Alloc
     }
 }
 
-/// What stands beside the mark where a message is sent.
+/// Returns the label of a message that was sent, with its number, kind and content.
 pub(crate) fn sent_label(
     alloc: Global,
     number: u32,
@@ -98,7 +98,7 @@ fn push_learned(label: &mut String, line: &[u8]) -> Result<(), AllocError>
     push_plain(label, word(line, 5))
 }
 
-// A word of ours, and what the line says behind its first word.
+// Adds `name`, and then the rest of the line after its first word.
 fn push_about(label: &mut String, name: &str, line: &[u8]) -> Result<(), AllocError>
     ensures { OnOk result (string_bytes label.new ≡ string_bytes label.old ++ label_about name.now line.now) }
 {
@@ -106,7 +106,7 @@ fn push_about(label: &mut String, name: &str, line: &[u8]) -> Result<(), AllocEr
     push_plain(label, rest(line, 1))
 }
 
-/// What stands beside the mark for any other outcome.
+/// Returns the label of an outcome other than a sent message.
 pub(crate) fn note_label(alloc: Global, note: Note, line: &[u8]) -> Result<String, AllocError>
     ensures { IfOk result (λ label. string_bytes label ≡ note_label note line.now) }
 {
@@ -121,7 +121,7 @@ pub(crate) fn note_label(alloc: Global, note: Note, line: &[u8]) -> Result<Strin
     Ok(label)
 }
 
-/// The class of an outcome.
+/// Returns the class of an outcome's element in the picture.
 pub(crate) fn note_class(note: Note) -> &'static str
     ensures { result.now ≡ note_class note }
 {

@@ -1,4 +1,4 @@
-//! Where each line of a trace is drawn.
+//! The position of each line of a trace in the picture.
 
 ghost use Rattle.std.specs.Prelude.{◌≡◌, ◌++◌, [], ◌+◌, ◌-◌, ◌<◌, ◌≤◌, ◌^◌, map, IfOk, OnOk};
 ghost use Rattle.std.specs.List.{cons_option, flat_map};
@@ -9,15 +9,16 @@ use crate::facts::{Fact, Kind, Note, fact_of};
 use crate::options::Options;
 use std::alloc::{AllocError, Global};
 
-/// Where a line of a trace is drawn, and what comes behind it. Levels are counted downwards, from 0.
+/// The position of a line in the picture, and the levels of the lines after it. Levels are counted downwards from 0.
 #[derive(Clone, Copy, Drop)]
 pub(crate) struct Spot {
-    /// The event to which the line belongs: its place and its server.
+    /// The place of the line's event in the schedule, counted from 0.
     pub(crate) place: u32,
+    /// The server at which the line's event happens.
     pub(crate) server: u32,
-    /// Whether the event is drawn.
+    /// Whether the line's event is drawn.
     pub(crate) is_shown: bool,
-    /// The level of the event.
+    /// The level of the line's event.
     pub(crate) top: usize,
     /// The level of the line.
     pub(crate) level: usize,
@@ -27,7 +28,7 @@ pub(crate) struct Spot {
     pub(crate) next: usize,
 }
 
-/// A line of a trace as it is drawn.
+/// A line of a trace, with its content and its position in the picture.
 #[derive(Clone, Copy, Drop)]
 pub(crate) struct Shape<'a> {
     pub(crate) line: &'a [u8],
@@ -35,7 +36,7 @@ pub(crate) struct Shape<'a> {
     pub(crate) spot: Spot,
 }
 
-/// A message that was sent.
+/// A message that was sent, with the position of its line. For a Skip, `inst` is the first instance.
 #[derive(Clone, Copy, Drop)]
 pub(crate) struct SentMessage {
     pub(crate) number: u32,
@@ -45,7 +46,7 @@ pub(crate) struct SentMessage {
     pub(crate) spot: Spot,
 }
 
-/// The spot before the first line.
+/// Returns the spot before the first line of a trace.
 pub(crate) fn start() -> Spot
     ensures { result ≡ start }
 {
@@ -66,7 +67,8 @@ fn is_drawn(options: &Options, place: u32) -> bool
     options.first <= place && place <= options.last
 }
 
-// An event begins at a level of its own. Its first outcome stands beside it, and each further one a level below.
+// Returns the spot of a line with this fact, if `pen` is the spot of the line before. A drawn event begins at a level
+// of its own. Its first outcome is at the same level, and each further outcome is one level lower.
 #[tactic(auto, unfolding(crate::specs::Layout::spot_after))]
 fn spot_after(options: &Options, pen: Spot, fact: Fact) -> Spot
     requires free { pen.free < 2 ^ 64 - 1 }
@@ -116,7 +118,7 @@ fn outcome_spot(pen: Spot) -> Spot
     }
 }
 
-/// The first line of a trace.
+/// Returns the first line of a trace.
 pub(crate) fn first_line<'a>(trace: &'a str) -> &'a [u8]
     ensures { result.now ≡ next_line (lines_of trace.now) }
 {
@@ -126,8 +128,8 @@ pub(crate) fn first_line<'a>(trace: &'a str) -> &'a [u8]
     }
 }
 
-/// The spot behind the last line of a trace. What a line says depends on the one behind it, so each is looked at when
-/// that one comes.
+/// Returns the spot after the last line of a trace. The meaning of a line depends on the line after it. So the loop
+/// handles each line when it has read the next one.
 pub(crate) fn end_of(options: &Options, trace: &str) -> Spot
     ensures { result ≡ end_of options.now start (lines_of trace.now) }
 {
@@ -140,7 +142,8 @@ pub(crate) fn end_of(options: &Options, trace: &str) -> Spot
     spot_after(options, pen, fact_of(line, &[]))
 }
 
-// Whether a line is told of at the foot, or sends a message, for which an arrow may look wherever it was sent.
+// Whether a picture needs a line even if its event is not drawn. The foot needs executions, closing lines and unheard
+// messages. An arrow may need a message that was sent by any event.
 fn is_told_below(fact: Fact) -> bool
     ensures { result ≡ is_told_below fact }
 {
@@ -153,7 +156,7 @@ fn is_told_below(fact: Fact) -> bool
     }
 }
 
-// Adds the shape of a line, where a picture needs it, and answers its spot.
+// Adds the shape of a line if a picture needs the line. Returns the spot of the line.
 fn push_line<'a>(
     shapes: &mut Vec<Shape<'a>>,
     options: &Options,
@@ -175,7 +178,7 @@ fn push_line<'a>(
     Ok(spot)
 }
 
-/// The shapes of the lines of a trace, but of those that no picture of this part needs.
+/// Returns the shapes of those lines that a picture of this part needs, in the order of the trace.
 pub(crate) fn shapes_of<'a>(
     alloc: Global,
     options: &Options,
@@ -225,7 +228,7 @@ fn push_sent_here(sents: &mut Vec<SentMessage>, shape: &Shape) -> Result<(), All
     Ok(())
 }
 
-/// The messages that were sent, by rising number.
+/// Returns the messages that were sent, in the order of the trace. A trace numbers them in this order, from 0.
 pub(crate) fn sents_of(alloc: Global, shapes: &[Shape]) -> Result<Vec<SentMessage>, AllocError>
     ensures { IfOk result (λ sents. sents.items ≡ sents_of (map outline shapes.now)) }
 {

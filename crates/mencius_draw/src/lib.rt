@@ -1,4 +1,5 @@
-//! A schedule as a picture: a space-time diagram of the text of its trace, as an SVG file.
+//! Draws a schedule as a space-time diagram. The input is the text of the schedule's trace, and the output is an SVG
+//! file.
 #![tactic(auto)]
 
 mod colours;

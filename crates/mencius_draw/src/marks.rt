@@ -1,4 +1,4 @@
-//! Events with their marks, and the outcomes beside them.
+//! Events with their marks, and the outcomes next to the marks.
 
 ghost use Rattle.std.specs.Prelude.{◌≡◌, ◌++◌, ◌<◌, IfOk, OnOk, string_bytes};
 ghost use Rattle.mencius_draw.specs.Labels.{note_class, note_label};
@@ -41,7 +41,7 @@ fn push_from_event(text: &mut String, sent: Spot) -> Result<(), AllocError>
     push_number(text, sent.place as usize)
 }
 
-// The event that sent the message, where the arrow does not begin at it.
+// Adds the event that sent the message, if the arrow does not begin at that event.
 fn push_origin(text: &mut String, sent: Spot, heard: Spot) -> Result<(), AllocError>
     ensures { OnOk result (string_bytes text.new
         ≡ string_bytes text.old ++ origin (is_near sent heard) sent) }
@@ -53,7 +53,7 @@ fn push_origin(text: &mut String, sent: Spot, heard: Spot) -> Result<(), AllocEr
     }
 }
 
-// Which message was heard or lost, and of which event where its arrow does not tell it.
+// Adds the message that was heard or lost. Also adds the event that sent it, if the arrow does not show this event.
 fn push_message(
     text: &mut String,
     servers: u32,
@@ -98,7 +98,7 @@ fn push_act(text: &mut String, act: Act) -> Result<(), AllocError>
     push_fixed(text, "</text>")
 }
 
-// What the event is, left of its mark.
+// Adds the text left of an event's mark, which names the event.
 fn push_cause(
     text: &mut String,
     servers: u32,
@@ -118,7 +118,8 @@ fn push_cause(
     push_act(text, act)
 }
 
-// Ring: heard. Cross: lost. Dot: asked from outside. Barred ring: refused.
+// Returns the mark of an event. A ring means heard, a cross means lost, and a dot means asked from outside. A barred
+// ring means refused.
 fn mark_of(act: Act, is_refused: bool) -> &'static str
     ensures { result.now ≡ mark_text act is_refused }
 {
@@ -140,7 +141,7 @@ fn push_mark(text: &mut String, act: Act, is_refused: bool) -> Result<(), AllocE
     text.push_str(mark_of(act, is_refused))
 }
 
-// Where the text at the left edge stands.
+// Adds the transform of the text at the left edge.
 fn push_edge(text: &mut String, level: usize) -> Result<(), AllocError>
     ensures { OnOk result (string_bytes text.new ≡ string_bytes text.old ++ edge_at level) }
 {
@@ -180,14 +181,15 @@ fn push_event(
     push_fixed(text, "</g></g>\n")
 }
 
-// Wide enough for a text of equally wide letters.
+// Returns the width of a box, in the picture's units. The letters of a label all have the same width. Only the first
+// 1,000 bytes of a label count.
 fn box_width(label: &str) -> usize
     ensures { result ≡ box_width label.now }
 {
     label.len().min(1000) * 29 / 4 + 15
 }
 
-// How far to the right a label reaches.
+// Returns how far to the right a label reaches, in the picture's units.
 fn reach_at(servers: u32, spot: Spot, label: &str) -> usize
     ensures value { result ≡ reach_at servers spot label.now }
     ensures bound { result < 10000 }
@@ -195,7 +197,8 @@ fn reach_at(servers: u32, spot: Spot, label: &str) -> usize
     lane_of(servers, spot.server) as usize + 24 + box_width(label)
 }
 
-/// How far to the right what is drawn of a line reaches.
+/// Returns how far to the right the label of a line reaches, in the picture's units. 0 if the line has no label or is
+/// not drawn.
 pub(crate) fn reach_of(alloc: Global, servers: u32, shape: &Shape) -> Result<usize, AllocError>
     ensures value { IfOk result (λ reach. reach ≡ reach_of servers (outline shape.now)) }
     ensures bound { IfOk result (λ reach. reach < 10000) }
@@ -216,7 +219,7 @@ pub(crate) fn reach_of(alloc: Global, servers: u32, shape: &Shape) -> Result<usi
     }
 }
 
-// A box, up to the class of the label in it.
+// Adds the geometry of a box, and the beginning of its label up to the label's class.
 fn push_label_box(text: &mut String, label: &str) -> Result<(), AllocError>
     ensures { OnOk result (string_bytes text.new ≡ string_bytes text.old ++ label_box label.now) }
 {
@@ -252,7 +255,8 @@ fn push_filled_box(text: &mut String, owner: u32, label: &str) -> Result<(), All
     push_fixed(text, "</text>")
 }
 
-// From a lane to a box; beside a mark from its right edge on.
+// Returns the path of the line from a lane to a box. If the box is next to a mark, the line begins at the mark's right
+// edge.
 fn tick_of(spot: Spot) -> &'static str
     ensures { result.now ≡ tick_of spot }
 {
@@ -304,7 +308,7 @@ fn push_sent(
     push_fixed(text, "</g>\n")
 }
 
-// A filled path that stands on the mark of an event.
+// Adds a filled path on top of the mark of an event.
 fn push_over_at(
     text: &mut String,
     servers: u32,
@@ -320,7 +324,7 @@ fn push_over_at(
     push_fixed(text, path)
 }
 
-// Diamond: learned. Square: executed.
+// Adds a diamond if a value was learned, and a square if an instance was executed. Adds no text for other outcomes.
 fn push_over(text: &mut String, servers: u32, note: Note, spot: Spot) -> Result<(), AllocError>
     ensures { OnOk result (string_bytes text.new
         ≡ string_bytes text.old ++ over_text servers note spot) }
@@ -334,7 +338,7 @@ fn push_over(text: &mut String, servers: u32, note: Note, spot: Spot) -> Result<
     }
 }
 
-// A filled box for what was learned or executed, and plain words for the rest.
+// Adds a filled box if the event learned or executed an instance, and plain words for any other outcome.
 fn push_words(text: &mut String, servers: u32, note: Note, label: &str) -> Result<(), AllocError>
     ensures { OnOk result (string_bytes text.new
         ≡ string_bytes text.old ++ note_words servers note label.now) }
@@ -390,7 +394,7 @@ fn push_note(
     push_fixed(text, "</g></g>\n")
 }
 
-/// An event, or what came of it; nothing for any other line, and nothing of an event that is not drawn.
+/// Adds an event or one of its outcomes. Adds no text for any other line, or if the event is not drawn.
 pub(crate) fn push_shape(
     alloc: Global,
     text: &mut String,

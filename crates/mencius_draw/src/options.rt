@@ -1,9 +1,9 @@
-//! What a caller may choose.
+//! The options of a picture, and its greatest size.
 
-/// The colours of a picture.
+/// The colour scheme of a picture.
 #[derive(Clone, Copy, Debug, PartialEq, Eq, Drop)]
 pub enum Scheme {
-    /// Those that the reader's system prefers; light ones in a reader that knows no preference.
+    /// The colours that the reader's system prefers, or light ones if the viewing program knows no preference.
     Both,
     /// Dark on light.
     Light,
@@ -11,7 +11,7 @@ pub enum Scheme {
     Dark,
 }
 
-/// Which part of a schedule is drawn, and in which colours.
+/// The part of a schedule that is drawn, and its colours.
 #[derive(Clone, Copy, Debug, PartialEq, Eq, Drop)]
 pub struct Options {
     /// The place of the first event that is drawn, counted from 0.
@@ -21,12 +21,12 @@ pub struct Options {
     pub scheme: Scheme,
 }
 
-/// The part that was to be drawn needs more levels than a picture may have.
+/// The selected part needs more levels than a picture may have.
 #[derive(Clone, Copy, Debug, PartialEq, Eq, Drop)]
 pub struct TooLarge {
-    /// How many levels it needs.
+    /// The number of levels that the part needs.
     pub levels: usize,
 }
 
-/// The most levels of a picture. An event takes one, and one more for each outcome behind the first.
+/// The greatest number of levels in a picture. An event takes one level, and another for each outcome after the first.
 pub const MOST_LEVELS: usize = 50_000;

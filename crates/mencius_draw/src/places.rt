@@ -1,4 +1,4 @@
-//! Where levels and lanes are, in the picture's units.
+//! The positions of levels and lanes, in the picture's units.
 
 ghost use Rattle.std.specs.Prelude.{◌≡◌, ◌++◌, ◌+◌, ◌<◌, ◌≤◌, OnOk, decimal, string_bytes};
 ghost use Rattle.mencius_draw.specs.Places.{lane_of, transform_at, transform_below, width_of, y_of};
@@ -7,7 +7,8 @@ use crate::options::MOST_LEVELS;
 use crate::words::{push_between, push_fixed, push_number};
 use std::alloc::AllocError;
 
-/// Where the middle of a level is.
+/// Returns the y coordinate of the middle of a level. Levels after `MOST_LEVELS` all get the coordinate of
+/// `MOST_LEVELS`.
 pub(crate) fn y_of(level: usize) -> usize
     ensures value { result ≡ y_of level }
     ensures low { 104 ≤ result }
@@ -16,7 +17,7 @@ pub(crate) fn y_of(level: usize) -> usize
     level.min(MOST_LEVELS) * 24 + 104
 }
 
-/// Where the lane of a server is; left of all lanes for a server that there is not.
+/// Returns the x coordinate of a server's lane. A server without a lane gets 416, which is left of all lanes.
 pub(crate) fn lane_of(servers: u32, server: u32) -> u32
     ensures value { result ≡ lane_of servers server }
     ensures low { 416 ≤ result }
@@ -29,7 +30,8 @@ pub(crate) fn lane_of(servers: u32, server: u32) -> u32
     }
 }
 
-/// How wide a picture is whose labels reach so far: wide enough for the cards below its lanes, and for its key.
+/// Returns the width of a picture whose labels reach to `reach`. It has room for the labels, for the cards below the
+/// lanes, and for the key.
 pub(crate) fn width_of(servers: u32, reach: usize) -> usize
     requires { reach < 2000000 }
     ensures { result ≡ width_of servers reach }
@@ -38,7 +40,7 @@ pub(crate) fn width_of(servers: u32, reach: usize) -> usize
     (reach + 16).max(lanes).max(860)
 }
 
-/// Adds where a level is, so far below it.
+/// Adds the y coordinate that is `by` units below the middle of a level.
 pub(crate) fn push_y_below(text: &mut String, level: usize, by: usize) -> Result<(), AllocError>
     requires { by < 1000 }
     ensures { OnOk result (string_bytes text.new ≡ string_bytes text.old ++ decimal (y_of level + by)) }
@@ -46,7 +48,7 @@ pub(crate) fn push_y_below(text: &mut String, level: usize, by: usize) -> Result
     push_number(text, y_of(level) + by)
 }
 
-/// Adds that something stands on the lane of a server, so far below a level.
+/// Adds a transform that moves an element to the lane of a server, `by` units below the middle of a level.
 pub(crate) fn push_transform_below(
     text: &mut String,
     servers: u32,
@@ -64,7 +66,7 @@ pub(crate) fn push_transform_below(
     push_fixed(text, ")'")
 }
 
-/// Adds that something stands on the lane of a server, at a level.
+/// Adds a transform that moves an element to the lane of a server, at the middle of a level.
 pub(crate) fn push_transform_at(
     text: &mut String,
     servers: u32,

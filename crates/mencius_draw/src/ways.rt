@@ -1,4 +1,4 @@
-//! Arrows: how messages came to servers, or were lost on their way.
+//! The arrows. They show how messages came to servers, or were lost on the way.
 
 ghost use Rattle.std.specs.Prelude.{◌≡◌, ◌++◌, ◌<◌, OnOk, decimal, string_bytes};
 ghost use Rattle.mencius_draw.specs.Facts.{kind_name};
@@ -12,14 +12,14 @@ use crate::places::{lane_of, y_of};
 use crate::words::{push_between, push_fixed, push_number};
 use std::alloc::AllocError;
 
-/// The server in whose colour an instance is drawn: its owner.
+/// Returns the owner of an instance. The instance is drawn in the owner's colour.
 pub(crate) fn owner_of(servers: u32, inst: u32) -> u32
     ensures { result ≡ owner_of servers inst }
 {
     inst % servers.max(1)
 }
 
-/// An event by which a message came to a server, or was lost for it.
+/// An event that delivered a message to a server, or lost it for that server.
 #[derive(Clone, Copy, Drop)]
 pub(crate) struct Way {
     pub(crate) message: u32,
@@ -27,7 +27,7 @@ pub(crate) struct Way {
     pub(crate) server: u32,
 }
 
-/// What of this a fact is: nothing, where the cluster refused the event.
+/// Returns the delivery or the loss in a fact. `None` if the cluster refused the event, or for any other fact.
 pub(crate) fn way_of(fact: Fact) -> Option<Way>
     ensures { result ≡ way_of fact }
 {
@@ -56,21 +56,23 @@ pub(crate) fn way_of(fact: Fact) -> Option<Way>
     }
 }
 
-/// The message of a delivery or a loss, where it was sent.
+/// Returns the message that was delivered or lost. `None` if no message with its number was sent.
 pub(crate) fn heard_by(sents: &[SentMessage], way: Way) -> Option<SentMessage>
     ensures { result ≡ heard_by sents.now way }
 {
     sents.get(way.message as usize).copied()
 }
 
-// How many events an arrow may pass. Loops of one server lie beside one another: more of them would lie on one another.
+// Returns the greatest number of events that an arrow may pass. The loops of one server are drawn side by side. If a
+// loop could pass more events, loops would lie on top of each other.
 fn longest_way(sent: Spot, heard: Spot) -> u32
     ensures { result ≡ longest_way sent heard }
 {
     if sent.server == heard.server { 8 } else { 30 }
 }
 
-/// Whether the arrow of a message is drawn whole: from an event that is drawn, not too far above.
+/// Whether the whole arrow of a message is drawn. It is drawn if the event that sent the message is drawn and is not
+/// too far above.
 pub(crate) fn is_near(sent: Spot, heard: Spot) -> bool
     ensures { result ≡ is_near sent heard }
 {
@@ -84,7 +86,7 @@ pub(crate) fn push_kind(text: &mut String, kind: Kind) -> Result<(), AllocError>
     text.push_str(kind.name())
 }
 
-/// Adds the server in whose colour an instance is drawn.
+/// Adds the number of the server in whose colour an instance is drawn.
 pub(crate) fn push_owner(text: &mut String, servers: u32, inst: u32) -> Result<(), AllocError>
     ensures { OnOk result (string_bytes text.new
         ≡ string_bytes text.old ++ decimal (owner_of servers inst)) }
@@ -92,7 +94,7 @@ pub(crate) fn push_owner(text: &mut String, servers: u32, inst: u32) -> Result<(
     push_number(text, owner_of(servers, inst) as usize)
 }
 
-/// Adds the server in whose colour an instance is drawn, between two texts that are always the same.
+/// Adds the number of the server in whose colour an instance is drawn, between two fixed texts.
 pub(crate) fn push_owner_between(
     text: &mut String,
     before: &str,
@@ -106,7 +108,7 @@ pub(crate) fn push_owner_between(
     push_between(text, before, owner_of(servers, inst) as usize, after)
 }
 
-/// Adds what became of a message.
+/// Adds `lost` or `heard`, the fate of a message.
 pub(crate) fn push_fate(text: &mut String, is_lost: bool) -> Result<(), AllocError>
     ensures { OnOk result (string_bytes text.new ≡ string_bytes text.old ++ fate_of is_lost) }
 {
@@ -123,7 +125,8 @@ fn point_of(kind: Kind) -> &'static str
     }
 }
 
-// So far beside a lane, on the side where the sender's lane is, and left of it where it is the same.
+// Returns the x coordinate `by` units away from the lane `to`, on the side of the sender's lane `from`. If both are the
+// same lane, the side is the left.
 fn place_beside(from: u32, to: u32, by: u32) -> u32
     requires lane { to < 2000 }
     requires near { by < 100 }
@@ -136,7 +139,8 @@ fn place_beside(from: u32, to: u32, by: u32) -> u32
     }
 }
 
-// A command of a path, or the next point of one: its letter or a space, and the place to which it goes.
+// Adds a command of a path, or the next point of a command. `letter` is the command's letter, or a space for a next
+// point. The point has the coordinates `x` and `y`.
 fn push_command(text: &mut String, letter: &str, x: u32, y: usize) -> Result<(), AllocError>
     ensures { OnOk result (string_bytes text.new
         ≡ string_bytes text.old ++ path_command letter.now x y) }
@@ -145,7 +149,7 @@ fn push_command(text: &mut String, letter: &str, x: u32, y: usize) -> Result<(),
     push_number(text, y)
 }
 
-// From a lane to just before the mark on another one.
+// Adds a straight line from the sender's lane to a point just before the mark on another lane.
 fn push_straight(
     text: &mut String,
     from: u32,
@@ -163,7 +167,8 @@ fn push_straight(
     push_command(text, "L", near, before)
 }
 
-// From a lane back to it, further out by the place of the event, so that loops keep apart.
+// Adds a loop from a lane back to the same lane. The place of the event decides how far out the loop goes, so that
+// loops keep apart.
 fn push_loop(
     text: &mut String,
     lane: u32,
@@ -186,7 +191,7 @@ fn push_loop(
     push_command(text, " ", near, before)
 }
 
-// The end of an arrow alone, from the side where the sender's lane is.
+// Adds only the end of an arrow. It comes from the side of the sender's lane.
 fn push_stub(text: &mut String, from: u32, to: u32, end: usize) -> Result<(), AllocError>
     requires { to < 2000 }
     ensures { OnOk result (string_bytes text.new ≡ string_bytes text.old ++ stub_path from to end) }
@@ -228,7 +233,7 @@ fn push_point(text: &mut String, kind: Kind) -> Result<(), AllocError>
     text.push_str(point_of(kind))
 }
 
-// The point of a message that was heard.
+// Ends the path of a heard message with the arrow's point.
 fn push_heard_end(text: &mut String, servers: u32, kind: Kind, inst: u32) -> Result<(), AllocError>
     ensures { OnOk result (string_bytes text.new
         ≡ string_bytes text.old ++ heard_end servers kind inst) }
@@ -239,7 +244,7 @@ fn push_heard_end(text: &mut String, servers: u32, kind: Kind, inst: u32) -> Res
     push_fixed(text, ")'")
 }
 
-// The point, which a lost message has not.
+// Ends the path. Adds the arrow's point, except for a lost message.
 fn push_end(
     text: &mut String,
     servers: u32,
@@ -291,7 +296,7 @@ fn push_arrow(
     push_way_title(text, sent, way)
 }
 
-/// The arrow of a delivery or a loss, and nothing for any other line.
+/// Adds the arrow of a delivery or a loss. Adds no text for any other line, or if the event is not drawn.
 pub(crate) fn push_way(
     text: &mut String,
     servers: u32,

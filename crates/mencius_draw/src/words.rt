@@ -1,4 +1,4 @@
-//! The words of a line of a trace.
+//! The words of a line of a trace. One space separates each word from the next.
 
 ghost use Rattle.std.specs.Prelude.{◌≡◌, ◌++◌, ◌==◌, ◌<◌, OnOk, decimal, string_bytes};
 ghost use Rattle.std.specs.List.{position};
@@ -7,14 +7,14 @@ ghost use Rattle.mencius_draw.specs.Words.{behind_first_word, first_word, fixed_
 
 use std::alloc::AllocError;
 
-// Where the first space stands.
+// Returns the index of the first space, if there is one.
 fn first_space(line: &[u8]) -> Option<usize>
     ensures { result ≡ position (λ b. b == 32) line.now }
 {
     line.iter().position(|b| *b == b' ')
 }
 
-// What stands behind the first space.
+// Returns the rest of the line after the first space. It is empty if the line has no space.
 fn behind_first_word(line: &[u8]) -> &[u8]
     ensures { result.now ≡ behind_first_word line.now }
 {
@@ -24,7 +24,7 @@ fn behind_first_word(line: &[u8]) -> &[u8]
     }
 }
 
-// What stands before the first space.
+// Returns the part of the line before the first space, or the whole line if it has no space.
 fn first_word(line: &[u8]) -> &[u8]
     ensures { result.now ≡ first_word line.now }
 {
@@ -34,7 +34,7 @@ fn first_word(line: &[u8]) -> &[u8]
     }
 }
 
-/// What stands behind so many words.
+/// Returns the rest of a line after its first `words` words.
 pub(crate) fn rest(line: &[u8], words: usize) -> &[u8]
     ensures { result.now ≡ rest words line.now }
 {
@@ -45,7 +45,7 @@ pub(crate) fn rest(line: &[u8], words: usize) -> &[u8]
     left
 }
 
-/// The word at a place, or an empty one.
+/// Returns the word at a place, counted from 0. The word is empty if the line has fewer words.
 #[tactic(auto, unfolding(crate::specs::Words::word))]
 pub(crate) fn word(line: &[u8], place: usize) -> &[u8]
     ensures { result.now ≡ word place line.now }
@@ -53,14 +53,14 @@ pub(crate) fn word(line: &[u8], place: usize) -> &[u8]
     first_word(rest(line, place))
 }
 
-/// Whether a word is this one.
+/// Whether `word` is equal to `name`.
 pub(crate) fn is_word(word: &[u8], name: &str) -> bool
     ensures { result ≡ bytes_eq word.now name.now }
 {
     word == name.as_bytes()
 }
 
-/// The number that a word's digits are, at most 4,294,967,295.
+/// Returns the number that the digits of a word write, but at most 4,294,967,295.
 #[tactic(auto, unfolding(crate::specs::Words::number))]
 pub(crate) fn number(word: &[u8]) -> u32
     ensures { result ≡ number word.now }
@@ -73,7 +73,7 @@ pub(crate) fn number(word: &[u8]) -> u32
     so_far
 }
 
-// Whether a byte is a letter, a digit or a mark of a trace.
+// Whether a byte is a letter, a digit or a mark that a trace may contain.
 fn is_plain(byte: u8) -> bool
     ensures { result ≡ is_plain byte }
 {
@@ -87,7 +87,7 @@ fn is_plain(byte: u8) -> bool
         || byte == b'_'
 }
 
-// Such a byte stands for itself; whatever else, as what XML reserves, becomes a question mark.
+// Returns a plain byte as it is, and a question mark for any other byte. Bytes that XML reserves are not plain.
 #[tactic(auto, unfolding(crate::specs::Words::plain_byte))]
 fn plain_byte(byte: u8) -> char
     ensures value { result ≡ plain_byte byte }
@@ -100,7 +100,7 @@ fn plain_byte(byte: u8) -> char
     }
 }
 
-/// Adds bytes of a trace to the text of a picture.
+/// Adds bytes of a trace to the text of a picture, with a question mark for each byte that is not plain.
 pub(crate) fn push_plain(text: &mut String, bytes: &[u8]) -> Result<(), AllocError>
     ensures { OnOk result (string_bytes text.new ≡ string_bytes text.old ++ plain_text bytes.now) }
 {
@@ -110,14 +110,14 @@ pub(crate) fn push_plain(text: &mut String, bytes: &[u8]) -> Result<(), AllocErr
     Ok(())
 }
 
-/// Adds a word of a line.
+/// Adds the word at a place of a line, counted from 0.
 pub(crate) fn push_word(text: &mut String, line: &[u8], place: usize) -> Result<(), AllocError>
     ensures { OnOk result (string_bytes text.new ≡ string_bytes text.old ++ plain_word place line.now) }
 {
     push_plain(text, word(line, place))
 }
 
-/// Adds what stands behind so many words of a line.
+/// Adds the rest of a line after its first `words` words.
 pub(crate) fn push_rest(text: &mut String, line: &[u8], words: usize) -> Result<(), AllocError>
     ensures { OnOk result (string_bytes text.new
         ≡ string_bytes text.old ++ plain_text (rest words line.now)) }
@@ -125,7 +125,7 @@ pub(crate) fn push_rest(text: &mut String, line: &[u8], words: usize) -> Result<
     push_plain(text, rest(line, words))
 }
 
-/// Adds a text that is always the same.
+/// Adds a fixed text.
 #[tactic(auto, unfolding(crate::specs::Words::fixed_text))]
 pub(crate) fn push_fixed(text: &mut String, part: &str) -> Result<(), AllocError>
     ensures { OnOk result (string_bytes text.new ≡ string_bytes text.old ++ fixed_text part.now) }
@@ -133,14 +133,14 @@ pub(crate) fn push_fixed(text: &mut String, part: &str) -> Result<(), AllocError
     text.push_str(part)
 }
 
-/// Adds a number.
+/// Adds a number in decimal digits.
 pub(crate) fn push_number(text: &mut String, number: usize) -> Result<(), AllocError>
     ensures { OnOk result (string_bytes text.new ≡ string_bytes text.old ++ decimal number) }
 {
     write!(text, "{number}")
 }
 
-/// Adds a number between two texts that are always the same.
+/// Adds a number between two fixed texts.
 pub(crate) fn push_between(
     text: &mut String,
     before: &str,

@@ -1,4 +1,4 @@
--- A call whose texts were all written ends as the program's does.
+-- A call over bytes in memory ends as a call of the program does, if all of its texts were written.
 use Rattle.std.specs.Prelude.{IfOk}
 use Rattle.std.proofs.Common.{◌≡◌, ◌≢◌, ◌⊎◌, ◌≤◌, ◌++◌, ◌∙◌, ℕ, Bool, false, List, [], Some, Result, Ok, Err, ap, subst, sym, arith, append-nil, inl, inr}
 use Rattle.clap.specs.Words.{Text}
@@ -11,7 +11,7 @@ use Rattle.mencius_app.specs.declared.ending.Ending.TheVariants.{BadCommandLine,
 use Rattle.mencius_exports.specs.declared.call.Called.{Called}
 use Rattle.mencius_exports.specs.Calls.{IsEndOf}
 
--- known bytes, and how many calls failed
+-- the state of a stream with known bytes and this number of failed calls
 abbrev pub of : List ℕ → ℕ → StreamState
 of bytes failures = record { bytes = Some bytes; failures = failures }
 
@@ -19,12 +19,12 @@ none_failed : (old new : ℕ) → new ≤ 0 → HasFailed old new → ⊥
 none_failed old new none (inl more) = omega (arith, more, none)
 none_failed old new none (inr most) = omega (arith, most, none)
 
--- what was written, if nothing failed
+-- if a fact holds unless a write failed, and no write failed, then the fact holds
 pub written : {X : Type 0} (old new : ℕ) → new ≤ 0 → X ⊎ HasFailed old new → X
 written old new none (inl x) = x
 written old new none (inr failed) = absurd (none_failed old new none failed)
 
--- the streams of a call before it and after it, and how many writes failed
+-- the streams of a call before and after it, and the numbers of failed writes
 module _ (arguments : List Text) (input left before out err_0 err_1 err : List ℕ)
     (w_0 w_1 e_0 e_1 : ℕ) (is_asked : Bool) (ending : Ending) (before_is : before ≡ []) (err_is : err_0 ≡ [])
     (w_none : w_0 ≡ 0) (w_still : w_1 ≡ 0) (e_still : e_1 ≡ 0) (last : err ≡ err_1 ++ lines_of_ending ending)
@@ -56,7 +56,7 @@ module _ (arguments : List Text) (input left before out err_0 err_1 err : List �
       quiet = λ other. last ∙ ap (λ e. e ++ lines_of_ending ending) (quiet other ∙ err_is);
     }
 
--- a call that was ended so is such a call, where it is one as far as all of its texts were written
+-- the result of a call has a property if it has this property whenever all of its texts were written
 pub ended_call : {E : Type 0} (IsSuchCall : ℕ → List ℕ → List ℕ → Bool → Type 0) (call : Result Called E)
     (status failed_writes failed_says : ℕ) (printed said : List ℕ) (is_asked : Bool)
     → IfOk call (λ _. (failed_writes ≡ 0) × (failed_says ≡ 0)) → IfOk call (λ x. x.status ≡ status)

@@ -1,4 +1,4 @@
--- A call for a state whose texts were all written ends at its text or at a fault.
+-- A call for a state ends with its text or with a fault, if all of its texts were written.
 use Rattle.std.specs.Prelude.{IfErr, IfSome, OnOk, true}
 use Rattle.std.proofs.Common.{◌≡◌, ◌++◌, ◌∙◌, ℕ, List, [], Some, Result, Ok, Err, ap, subst, sym}
 use Rattle.mencius_io.specs.declared.failure.Failure.{Failure}
@@ -13,7 +13,7 @@ use Rattle.mencius_app.specs.declared.ending.Ending.TheVariants.{Failed}
 use Rattle.mencius_exports.specs.Calls.{IsEndOfState, ending_of_state}
 use Rattle.mencius_exports.proofs.CallEnds.{of}
 
--- the streams of a call before it and after it, and how many writes failed
+-- the streams of a call before and after it, and the numbers of failed writes
 module _ (input left before out err_1 err : List ℕ) (w_0 w_1 : ℕ) (before_is : before ≡ []) (err_is : err_1 ≡ [])
     (w_none : w_0 ≡ 0) (w_still : w_1 ≡ 0) where
   abbrev s : Streams

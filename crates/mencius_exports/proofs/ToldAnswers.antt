@@ -1,4 +1,4 @@
--- What an answer tells of.
+-- The `Answer` reports the call, or that there was no memory for it.
 use mir.Val.{bool_byte}
 use Rattle.std.specs.Prelude.{IfOk, MatchResult}
 use Rattle.std.proofs.Common.{◌≡◌, ℕ, Bool, true, false, List, [], Result, Ok, Err, inl, inr, refl, subst}
@@ -10,7 +10,7 @@ pub number_is : (is_asked : Bool) → bool_byte is_asked ≡ asked_number is_ask
 number_is true = refl
 number_is false = refl
 
--- a call for which there was no memory
+-- after a call that ran out of memory, the `Answer` has the status for this and reports two empty texts
 pub told_of_none : (answer : Answer) (status : ℕ) (printed said : List ℕ) (is_asked : Bool)
     (out then_out err then_err : List ℕ) → status ≡ memory_status → printed ≡ [] → said ≡ [] → is_asked ≡ false
     → Tells answer status printed said is_asked out then_out err then_err
@@ -21,7 +21,7 @@ told_of_none answer status printed said is_asked out then_out err then_err statu
     (subst (λ p. Tells answer memory_status p said is_asked out then_out err then_err) printed_is
     (subst (λ n. Tells answer n printed said is_asked out then_out err then_err) status_is told)))
 
--- a call of some kind, or one for which there was no memory
+-- the `Answer` is right after a call that has a result and after a call that ran out of memory
 pub answers : {E : Type 0} (IsSuchCall : ℕ → List ℕ → List ℕ → Bool → Type 0) (call : Result Called E) (answer : Answer)
     (out then_out err then_err : List ℕ)
     → IfOk call (λ x. IsSuchCall x.status x.printed.items x.said.items x.is_asked)

@@ -1,4 +1,4 @@
--- A call of the program over bytes in memory: what it prints, says and answers.
+-- A call of the program over bytes in memory, with the texts that it makes and the `Answer` that its host gets.
 use Rattle.std.specs.Prelude.{◌≡◌, ◌≢◌, ◌⊎◌, ◌<◌, ◌≤◌, ◌==◌, ℕ, Bool, true, false, List, [], ◌∷◌, ◌++◌, length, drop, if◌then◌else◌, Some, IfSome, Result, Ok, Err}
 use Rattle.clap.specs.Words.{Text}
 use Rattle.mencius_io.specs.Streams.{StreamState}
@@ -17,26 +17,29 @@ use Rattle.mencius_exports.specs.declared.answer.Answer.{Answer}
 
 -- ---- arguments
 
--- the words of these bytes, where the next word has begun so: each ends at a zero, and bytes behind the last are none
+-- the words in these bytes, if the first of them has already begun with `begun`. Each word ends at a zero byte, and
+-- bytes after the last zero byte are not in any word
 abbrev pub words_from : Text → List ℕ → List Text
 words_from begun [] = []
 words_from begun (byte ∷ bytes) =
     if byte == 0 then begun ∷ words_from [] bytes else words_from (begun ++ byte ∷ []) bytes
 
+-- the words in these bytes, each ended by a zero byte
 abbrev pub words_in : List ℕ → List Text
 words_in bytes = words_from [] bytes
 
 -- ---- a call
 
--- a reader that has these bytes, or a writer that got them, of which no call failed
+-- the state of a reader that has these bytes, or of a writer that got them, without a failed call
 abbrev pub of_bytes : List ℕ → StreamState
 of_bytes bytes = record { bytes = Some bytes; failures = 0 }
 
--- the reader has this input and then what is left of it, and the writer gets what is printed
+-- the streams of a call. The reader has this input before the call and `left` after it, and the empty writer gets the
+-- printed text
 abbrev pub in_memory : List ℕ → List ℕ → List ℕ → Streams
 in_memory input left printed = streams (of_bytes input) (of_bytes left) (of_bytes []) (of_bytes printed)
 
--- a call with these arguments and this input ended so. It printed and said these texts, each whole. No board fails
+-- a call with these arguments and this input may end in this way, with these two texts, each complete. No board fails
 pub record IsEndOf (arguments : List Text) (input : List ℕ) (ending : Ending) (printed said : List ℕ) (is_asked : Bool)
     : Type 0 where
   pub call : (left : List ℕ) × EndsCall arguments (in_memory input left printed) ending
@@ -46,19 +49,19 @@ pub record IsEndOf (arguments : List Text) (input : List ℕ) (ending : Ending) 
   pub complaint : ending ≡ BadCommandLine → IsComplaint arguments said
   pub quiet : ending ≢ BadCommandLine → said ≡ lines_of_ending ending
 
--- and this is its status
+-- a call with these arguments and this input may have this exit status and these two texts
 abbrev pub IsCall : List Text → List ℕ → ℕ → List ℕ → List ℕ → Bool → Type 0
 IsCall arguments input status printed said is_asked =
     (ending : Ending) × (status ≡ status_of_ending ending) × IsEndOf arguments input ending printed said is_asked
 
 -- ---- a state
 
--- how a call for a state ends that came to this
+-- the ending of a call for a state from its result
 abbrev pub ending_of_state : {T : Type 0} → Result T Failure → Ending
 ending_of_state (Ok done) = Done
 ending_of_state (Err failure) = Failed failure
 
--- the state after this scenario was asked for, and it ended so. It printed and said these texts, each whole
+-- a call for the state after this scenario may end in this way, with these two texts, each complete
 pub record IsEndOfState (input : List ℕ) (ending : Ending) (printed said : List ℕ) : Type 0 where
   pub done : ending ≡ Done → IsMadeOf state_text (Some input) printed
   pub no_other : (ending ≢ Refused) × (ending ≢ BadCommandLine) × (ending ≢ BoardFailed)
@@ -66,27 +69,28 @@ pub record IsEndOfState (input : List ℕ) (ending : Ending) (printed said : Lis
       × IfSome (failure_in ending) (Fails state_task (ExplainsAs Replay) (in_memory input left printed))
   pub told : said ≡ lines_of_ending ending
 
--- and this is its status; the scenario is always read
+-- a call for the state after this scenario may have this exit status and these two texts. It always reads the scenario
 abbrev pub IsStateCall : List ℕ → ℕ → List ℕ → List ℕ → Bool → Type 0
 IsStateCall input status printed said is_asked =
     (ending : Ending) × (status ≡ status_of_ending ending) × IsEndOfState input ending printed said × (is_asked ≡ true)
 
--- ---- an answer
+-- ---- the `Answer` of a call
 
--- the status of a call for which there is no memory
+-- the exit status of a call if there is no memory for it
 abbrev pub memory_status : ℕ
 memory_status = status_of NoMemory
 
--- a text was put to the front of a room, where it fits, and the rest of the room stays
+-- a text was put at the front of a buffer and the rest stayed, or the text was too long and the whole buffer stayed
 abbrev pub IsPut : List ℕ → List ℕ → List ℕ → Type 0
 IsPut text old new =
     ((length text ≤ length old) × (new ≡ text ++ drop (length text) old)) ⊎ ((length old < length text) × (new ≡ old))
 
--- a number for whether the input was read
+-- the number that says whether the input was read, which is 1 or 0
 abbrev pub asked_number : Bool → ℕ
 asked_number is_asked = if is_asked then 1 else 0
 
--- the answer tells of a call that printed and said these texts, which were put where there is room
+-- the `Answer` reports a call with this status and these two texts, and whether the call read its input. Each text was
+-- put into its buffer if it fits
 pub record Tells (answer : Answer) (status : ℕ) (printed said : List ℕ) (is_asked : Bool)
     (out then_out err then_err : List ℕ) : Type 0 where
   pub status_is : answer.status ≡ status
@@ -96,17 +100,17 @@ pub record Tells (answer : Answer) (status : ℕ) (printed said : List ℕ) (is_
   pub out_is : IsPut printed out then_out
   pub err_is : IsPut said err then_err
 
--- the answer to such a call, or to one for which there was no memory
+-- the `Answer` reports a call with the property `IsSuchCall`, or a call for which memory ran out
 abbrev pub Answers : (ℕ → List ℕ → List ℕ → Bool → Type 0) → Answer → List ℕ → List ℕ → List ℕ → List ℕ → Type 0
 Answers IsSuchCall answer out then_out err then_err =
     ((status : ℕ) × (printed said : List ℕ) × (is_asked : Bool) × IsSuchCall status printed said is_asked
     × Tells answer status printed said is_asked out then_out err then_err)
     ⊎ Tells answer memory_status [] [] false out then_out err then_err
 
--- the answer to these arguments and this input
+-- the `Answer` and the buffers report a call with these arguments and this input
 abbrev pub IsAnswered : List ℕ → List ℕ → Answer → List ℕ → List ℕ → List ℕ → List ℕ → Type 0
 IsAnswered words input = Answers (IsCall (words_in words) input)
 
--- the answer to a call for the state after this scenario
+-- the `Answer` and the buffers report a call for the state after this scenario
 abbrev pub IsStateAnswered : List ℕ → Answer → List ℕ → List ℕ → List ℕ → List ℕ → Type 0
 IsStateAnswered input = Answers (IsStateCall input)

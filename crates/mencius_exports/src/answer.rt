@@ -1,4 +1,4 @@
-//! What a host is told of a call.
+//! The `Answer` that a host gets after a call.
 
 ghost use Rattle.std.specs.Prelude.{◌≡◌, [], false, MatchResult};
 ghost use Rattle.mencius_exports.specs.Calls.{IsPut, Tells, memory_status};
@@ -7,20 +7,20 @@ use crate::call::Called;
 use mencius_base::NoMemory;
 use std::alloc::Global;
 
-/// How a call of the program ended, and how many bytes it printed and said.
+/// The result of a call of the program, without its texts.
 #[repr(C)]
 pub struct Answer {
     /// The exit status, 0 to 5.
     pub status: u64,
-    /// How many bytes go to standard output.
+    /// The number of bytes for standard output.
     pub printed: u64,
-    /// How many bytes go to standard error.
+    /// The number of bytes for standard error.
     pub said: u64,
-    /// 1 where the input was read, else 0.
+    /// 1 if the input was read, and 0 otherwise.
     pub asked: u64,
 }
 
-/// Tells of a call, or that there was no memory for it, and puts its texts where there is room.
+/// Reports a call, or that memory ran out for it. Puts each text of the call into its buffer if the whole text fits.
 pub(crate) fn tell(
     alloc: Global,
     call: Result<Called, NoMemory>,
@@ -38,7 +38,7 @@ pub(crate) fn tell(
     }
 }
 
-// Tells of a call, and puts its texts where there is room.
+// Reports a call, and puts each text of the call into its buffer if the whole text fits.
 fn tell_texts(called: &Called, printed: &mut [u8], said: &mut [u8], answer: &mut Answer)
     ensures { Tells answer.new called.now.status called.now.printed.items called.now.said.items
         called.now.is_asked printed.old printed.new said.old said.new }
@@ -51,7 +51,7 @@ fn tell_texts(called: &Called, printed: &mut [u8], said: &mut [u8], answer: &mut
     answer.asked = u64::from(called.is_asked);
 }
 
-// Puts a text to the front of a room, where it fits.
+// Puts a text at the front of a buffer if the whole text fits. The rest of the buffer stays unchanged.
 fn put(text: &[u8], room: &mut [u8])
     ensures { IsPut text.now room.old room.new }
 {

@@ -1,4 +1,4 @@
-//! A call of the program over bytes.
+//! A call of the program over bytes in memory.
 
 ghost use Rattle.std.specs.Prelude.{◌≡◌, ◌++◌, [], IfOk, false, true, take, drop, map};
 ghost use Rattle.std.specs.Io.KnownBytes.{Appends};
@@ -10,21 +10,21 @@ use mencius_app::{AppFault, Ending, Failure, end, exit_status, perform_in_turns,
 use mencius_base::NoMemory;
 use std::alloc::Global;
 
-/// What a call of the program came to.
+/// The result of a call of the program.
 #[derive(Drop)]
 pub(crate) struct Called {
     /// Its exit status.
     pub status: u8,
-    /// What it printed to standard output.
+    /// The text for standard output.
     pub printed: Vec<u8>,
-    /// What it said on standard error.
+    /// The text for standard error.
     pub said: Vec<u8>,
     /// Whether it read its input.
     pub is_asked: bool,
 }
 
 impl Called {
-    /// A call for which there was no memory: it printed and said nothing.
+    /// Makes the result of a call that ran out of memory. It printed nothing and said nothing.
     pub fn without_memory(alloc: Global) -> Called
         ensures status { result.status ≡ memory_status }
         ensures printed { result.printed.items ≡ [] }
@@ -40,7 +40,7 @@ impl Called {
     }
 }
 
-/// Calls the program with these arguments, each with a zero byte behind it, and with this input.
+/// Calls the program with these arguments and this input. Each argument ends with a zero byte.
 pub(crate) fn call(alloc: Global, words: &[u8], input: &[u8]) -> Result<Called, NoMemory>
     ensures { IfOk result (λ x. IsCall (words_in words.now) input.now x.status x.printed.items
         x.said.items x.is_asked) }
@@ -54,7 +54,7 @@ pub(crate) fn call(alloc: Global, words: &[u8], input: &[u8]) -> Result<Called, 
     end_call(ending, source.is_asked, sink, errors)
 }
 
-/// Asks for the state after the scenario that this input is.
+/// Makes the text of the state after the scenario in this input.
 pub(crate) fn call_for_state(alloc: Global, input: &[u8]) -> Result<Called, NoMemory>
     ensures { IfOk result (λ x. IsStateCall input.now x.status x.printed.items x.said.items
         x.is_asked) }
@@ -65,7 +65,7 @@ pub(crate) fn call_for_state(alloc: Global, input: &[u8]) -> Result<Called, NoMe
     end_call(ending, true, sink, Text::new(alloc))
 }
 
-// How a call for a state ends.
+// Returns the ending of a call for a state.
 fn ending_of_state(done: Result<(), Failure>) -> Ending
     ensures { result ≡ ending_of_state done }
 {
@@ -75,7 +75,7 @@ fn ending_of_state(done: Result<(), Failure>) -> Ending
     }
 }
 
-// What a call came to that ended so, unless there was no memory for one of its texts.
+// Returns the result of a call with this ending, unless there was no memory for one of its texts.
 fn end_call(ending: Ending, is_asked: bool, sink: Text, errors: Text) -> Result<Called, NoMemory>
     ensures whole { IfOk result (λ _. (sink.failures ≡ 0) × (errors.failures ≡ 0)) }
     ensures status { IfOk result (λ x. x.status ≡ status_of_ending ending) }
@@ -99,7 +99,7 @@ fn end_call(ending: Ending, is_asked: bool, sink: Text, errors: Text) -> Result<
     })
 }
 
-// The arguments, of which each has a zero byte behind it.
+// Splits bytes into arguments, each of which ends with a zero byte. Bytes after the last zero byte are ignored.
 fn arguments_in(alloc: Global, words: &[u8]) -> Result<Vec<Vec<u8>>, NoMemory>
     ensures { IfOk result (λ x. map (λ a. a.items) x.items ≡ words_in words.now) }
 {

@@ -40,7 +40,7 @@ pub extern "C" fn mencius_call(
 /// Steps a new cluster through the events of a scenario of `replay`, and prints what each server knows afterwards.
 ///
 /// The output has a line `refused PLACE REFUSAL` for each refused event. Then come the lines of each server: its line of
-/// the report, and a line for each instance that it has received a message about:
+/// the report, and a line for each instance that it knows anything about:
 ///
 /// `slot SERVER instance INSTANCE promised BALLOT vote BALLOT VALUE tries BALLOT promises COUNT proposed VALUE acceptances
 /// COUNT learned VALUE`

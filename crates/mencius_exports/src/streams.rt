@@ -1,4 +1,4 @@
-//! The streams of a call: an input that is in memory, and texts that are put there.
+//! The streams of a call, with an input and texts in memory.
 
 ghost use Rattle.std.specs.Prelude.{◌≡◌, [], false, Some};
 
@@ -7,17 +7,17 @@ use std::alloc::Global;
 use std::io;
 use std::io::{Error, ErrorKind};
 
-/// Bytes that are read, and whether they were asked for. Reading them never fails.
+/// An input in memory, with a flag that says whether it was read. Reading it never fails.
 #[derive(Drop)]
 pub(crate) struct Input<'a> {
-    /// What is left.
+    /// The bytes that are still to be read.
     pub rest: &'a [u8],
-    /// Whether any of it, or its end, was asked for.
+    /// Whether a call tried to read the bytes or their end.
     pub is_asked: bool,
 }
 
 impl<'a> Input<'a> {
-    /// These bytes, of which none was asked for.
+    /// Makes an input from these bytes, which nobody has read yet.
     pub fn new(bytes: &'a [u8]) -> Input<'a>
         ensures rest { result.rest.now ≡ bytes.now }
         ensures unread { result.is_asked ≡ false }
@@ -46,17 +46,17 @@ impl<'a> Source for Input<'a> {
     }
 }
 
-/// A text that grows by what is written. A write fails where there is no memory for it.
+/// A text in memory that grows with each write. A write fails if there is no memory for it.
 #[derive(Drop)]
 pub(crate) struct Text {
-    /// What was written.
+    /// The bytes that were written.
     pub bytes: Vec<u8>,
-    /// How many writes have failed.
+    /// The number of writes that failed.
     pub failures: u64,
 }
 
 impl Text {
-    /// The empty text.
+    /// Makes an empty text.
     pub fn new(alloc: Global) -> Text
         ensures bytes { result.bytes.items ≡ [] }
         ensures none { result.failures ≡ 0 }

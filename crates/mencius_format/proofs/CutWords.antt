@@ -1,4 +1,4 @@
--- The words of a text that is cut at its first space.
+-- The words of a text are the part before its first space, and then the words of the rest.
 use Rattle.std.proofs.Common.{◌≡◌, ◌⊎◌, inl, inr, ℕ, ◌<◌, ◌==◌, List, [], ◌∷◌, length, Option, Some, None, Bool, true, false, cond, refl, ap, sym, ◌∙◌, arith, suc, get_or, ◌+◌, ◌-◌, ◌++◌, ◌≤◌, ltb, take, drop}
 use Rattle.std.specs.Option.{unwrap_or}
 use Rattle.std.specs.List.{slice_split, onto_first, list_all, position, position_or_len}
@@ -17,7 +17,7 @@ use Rattle.mencius_format.proofs.NumberWords.{number_digits}
 
 -- ---- a cut
 
--- where a byte stands first, if anywhere
+-- if some byte passes the test, `position_or_len` is the place of the first one, before the end of the text
 pub at_place : (test : ℕ → Bool) (text : List ℕ) (n : ℕ) → position test text ≡ Some n
     → (n ≡ position_or_len test text) × (position_or_len test text < length text)
 at_place test text n e = by_test (ltb (position_or_len test text) (length text)) refl e
@@ -33,7 +33,7 @@ pub found_byte : (mark : ℕ) (text : List ℕ) (n : ℕ) → position (λ byte.
 found_byte mark text n e =
     let found = position-Some (λ byte. byte == mark) text n 0 e in (found.0, eqb-true _ _ found.1)
 
--- the first part, and the parts of what follows
+-- the parts of a text are the part before the first mark, and then the parts of the rest
 pub found_parts : (mark : ℕ) (text : List ℕ) (n : ℕ) → position (λ byte. byte == mark) text ≡ Some n
     → parts mark text ≡ take n text ∷ parts mark (drop (n + 1) text)
 found_parts mark text n e =
@@ -46,7 +46,7 @@ uncut test [] h = refl
 uncut test (byte ∷ bytes) h = slice_split-cons_no test byte bytes (h 0 (omega arith))
     ∙ ap (onto_first byte) (uncut test bytes (λ n l. h (suc n) (omega arith)))
 
--- the byte stands nowhere
+-- if no byte passes the test, `position_or_len` is not before the end of the text
 pub no_place : (test : ℕ → Bool) (text : List ℕ) → position test text ≡ None → length text ≤ position_or_len test text
 no_place test text e = by_test (ltb (position_or_len test text) (length text)) refl e
   where
@@ -55,14 +55,14 @@ no_place test text e = by_test (ltb (position_or_len test text) (length text)) r
     by_test true less is = absurd (cc)
     by_test false past is = ltb-false _ _ past
 
--- the text is one part
+-- a text without the mark is one part
 pub lacking_parts : (mark : ℕ) (text : List ℕ) → position (λ byte. byte == mark) text ≡ None
     → parts mark text ≡ text ∷ []
 lacking_parts mark text e =
     let far = no_place (λ byte. byte == mark) text e in
     uncut (λ byte. byte == mark) text (λ n l. fails_before_first (λ byte. byte == mark) text n 0 (omega arith))
 
--- ---- a word that is all the rest
+-- ---- a word that is the whole rest
 
 first_part : (mark : ℕ) (text : List ℕ) → (xs : List ℕ) × (ps : List (List ℕ)) × (parts mark text ≡ xs ∷ ps)
 first_part mark [] = ([], [], refl)
@@ -74,7 +74,7 @@ first_part mark (byte ∷ bytes) = by_test (byte == mark) (first_part mark bytes
     by_test true same = ([], parts mark bytes, refl)
     by_test false same = (byte ∷ same.0, same.1, ap (onto_first byte) same.2)
 
--- there are two parts at least, and a byte that fails the test
+-- there are at least two parts, and a byte of the text fails the test
 abbrev pub HasMore : (ℕ → Bool) → List ℕ → List (List ℕ) → Type 0
 HasMore test text ps =
     (x : List ℕ) × (y : List ℕ) × (ys : List (List ℕ)) × (ps ≡ x ∷ y ∷ ys) × (list_all test text ≡ false)
@@ -107,7 +107,7 @@ one_or_more test mark lacks (byte ∷ bytes) =
           and_right (test byte) (list_all test bytes) more.4,
         )
 
--- a reader that takes no byte at which the text is cut reads the whole rest
+-- if a reader rejects every text with the mark, it reads the only part of a text as it reads the whole text
 single_rest : {X : Type 0} (test : ℕ → Bool) (read : List ℕ → Option X)
     → ((word : List ℕ) → list_all test word ≡ false → read word ≡ None) → (mark : ℕ) → test mark ≡ false
     → (text : List ℕ)
@@ -128,7 +128,7 @@ pub single_number : (mark : ℕ) → is_ascii_digit mark ≡ false → (text : L
     → single_word number_of (parts mark text) ≡ number_of text
 single_number = single_rest is_ascii_digit number_of number_none
 
--- a text is one word, or there are two words at least and it is not a name
+-- a text is one word, or it has at least two words and is not a name
 pub one_name_or_more : (text : List ℕ) → (parts 32 text ≡ text ∷ []) ⊎ HasMore is_name_byte text (parts 32 text)
 one_name_or_more = one_or_more is_name_byte 32 refl
 
@@ -159,7 +159,7 @@ word_below word rest text e = rw (e, length-append word (32 ∷ rest)) (omega ar
 pub space_behind : (word rest text : List ℕ) → text ≡ word ++ 32 ∷ rest → get_or text (length word) 0 ≡ 32
 space_behind word rest text e = rw e (get_or-append_seam word 32 rest 0)
 
--- what a text does not begin with is not its first word
+-- a word is not the first word of a text that does not begin with the word and a space
 pub not_first : (word text : List ℕ) (n : ℕ) → position (λ byte. byte == 32) text ≡ Some n
     → ((rest : List ℕ) → text ≡ word ++ 32 ∷ rest → ⊥) → take n text ≡ word → ⊥
 not_first word text n e none is =

@@ -1,4 +1,4 @@
--- Which words are numbers, and what std's reader makes of them.
+-- The parser of std accepts a number exactly if its type can hold it.
 use Rattle.std.proofs.Common.{◌≡◌, ◌<◌, ◌≤◌, ◌^◌, ℕ, List, [], ◌∷◌, ◌&&◌, length, true, false, Bool, arith, Result, Ok, Err, Some, None, cond, ◌==◌, refl, ap, sym, nat_lt, drop, slice_index_or}
 use Rattle.std.specs.Result.{OkIff}
 use Rattle.std.specs.Char.{is_ascii_digit, digit_value}
@@ -21,7 +21,7 @@ digits_from_first true byte [] z e = and_from (is_ascii_digit byte) true (zero_d
 digits_from_first true byte (x ∷ bytes) z e = absurd (grind (arith, nat_tests))
 digits_from_first false byte bytes z e = e
 
--- a number has digits only
+-- a number consists of digits
 pub number_digits : (word : List ℕ) → is_number word ≡ true → list_all is_ascii_digit word ≡ true
 number_digits [] e = refl
 number_digits (byte ∷ bytes) e = digits_from_first (byte == 48) byte bytes refl e
@@ -43,7 +43,7 @@ weaker : {E : Type 0} (r : Result ℕ E) (P Q : Type 0) (value : ℕ) → OkIff 
 weaker (Ok x) P Q value h holds = (h.0.1, h.1)
 weaker (Err x) P Q value h holds = λ other. h (holds, other)
 
--- std's reader takes a number exactly when its type holds it
+-- std's parser returns the value of a number exactly if the type of this many bits can hold it
 pub parsed : {E : Type 0} (bits : ℕ) (word : List ℕ) (r : Result ℕ E) → ParsesUnsigned bits 10 word r
     → is_number word ≡ true
     → OkIff r (digits_value 10 word < 2 ^ bits) (digits_value 10 word)
@@ -52,7 +52,7 @@ parsed bits word r h e =
     (parse_digits (numerals_by_value (AllDigits 10) tells_digits) bits word r h
     (all_digits word (number_digits word e))) (number_length word e)
 
--- and else the number is past the limit
+-- if std's parser rejects a number, the number is past the limit
 pub past_limit : {E : Type 0} (bits : ℕ) (word : List ℕ) (e : E) → ParsesUnsigned bits 10 word (Err e)
     → is_number word ≡ true
     → value_or_fault (λ n. nat_lt n (2 ^ bits)) (number_of word) ≡ Err BadLimit
@@ -75,7 +75,7 @@ digit_bytes [] h = refl
 digit_bytes (byte ∷ bytes) h =
     and_from (is_ascii_digit byte) (list_all is_ascii_digit bytes) (digit_byte byte h.0) (digit_bytes bytes h.1)
 
--- a numeral that begins with 1 to 9 is a number
+-- a numeral that begins with 1 to 9 is a number of the same value
 pub number_read : (word : List ℕ) (n : ℕ) → IsNumeral 10 (without_leading_plus word)
     → n ≡ digits_value 10 (without_leading_plus word) → 49 ≤ slice_index_or word 0 0
     → slice_index_or word 0 0 ≤ 57 → number_of word ≡ Some n

@@ -1,4 +1,4 @@
--- What is judged of the parts is judged of the whole.
+-- Checking the parts of a value for shape and limits gives the same result as checking the whole.
 use Rattle.std.proofs.Common.{◌≡◌, ◌&&◌, Bool, true, false, cond, Option, Some, None, option_map, Result, Ok, Err, refl, ap, sym, ◌∙◌}
 use Rattle.std.specs.Option.{option_zip}
 use Rattle.std.specs.Result.{IsErrAnd}
@@ -15,7 +15,7 @@ pub either_way : {X : Type 0} (a : Bool) (x : X) → cond a x x ≡ x
 either_way true x = refl
 either_way false x = refl
 
--- two things that were judged
+-- checking two values and then pairing them is the same as checking the pair
 pub both_values : {X Y : Type 0} (f : X → Bool) (g : Y → Bool) (o : Option X) (s : Option Y)
     → both_or_fault (value_or_fault f o) (value_or_fault g s) ≡ value_or_fault (λ z. f z.0 && g z.1) (option_zip o s)
 both_values f g None None = refl
@@ -37,7 +37,7 @@ both_values {X} {Y} f g (Some x) (Some y) = by_tests (f x) (g y)
     by_tests false true = refl
     by_tests false false = refl
 
--- what is made of a thing that was judged
+-- checking a value and then building from it is the same as building first and then checking
 pub map_ok_value : {X Y : Type 0} (make : X → Y) (f : X → Bool) (g : Y → Bool) → ((x : X) → g (make x) ≡ f x)
     → (o : Option X) → map_ok make (value_or_fault f o) ≡ value_or_fault g (option_map make o)
 map_ok_value make f g same None = refl
@@ -48,7 +48,7 @@ map_ok_value {X} {Y} make f g same (Some x) = rw (same x) (by_test (f x))
     by_test true = refl
     by_test false = refl
 
--- ---- where memory may run out
+-- ---- results that may be out of memory
 
 pub fails : {X : Type 0} (fault : IoFault) (answer : Result X IoFault) → answer ≡ Err fault → FailsBy fault answer
 fails NoMemory answer e = tt
@@ -62,7 +62,7 @@ pub given : {X : Type 0} (result answer : Result X IoFault) → result ≡ answe
 given (Ok x) answer e = sym e
 given (Err fault) answer e = fails fault answer (sym e)
 
--- a step that hands a fault on
+-- if a step passes a fault on, the result after the step has the same fault
 pub fails_on : {X Y : Type 0} (step : Result X IoFault
     → Result Y IoFault) (fault : IoFault) (answer : Result X IoFault) → step (Err fault) ≡ Err fault
     → FailsBy fault answer → FailsBy fault (step answer)
@@ -91,7 +91,7 @@ both_or_fault_given (Err BadShape) a s answer h given = rw h refl
 both_or_fault_given (Err ReadFailed) a s answer h given = rw h refl
 both_or_fault_given (Err WriteFailed) a s answer h given = rw h refl
 
--- what is made of one thing, and of two
+-- if a result is as expected (`Gives`), the value that is built from it is as expected too
 pub made_given : {X Y : Type 0} (make : X → Y) (f : X → Bool) (g : Y → Bool) → ((x : X) → g (make x) ≡ f x)
     → (o : Option X) (result : Result X IoFault) → Gives result (value_or_fault f o)
     → Gives (map_ok make result) (value_or_fault g (option_map make o))
@@ -115,7 +115,7 @@ both_given make f g ok same o s r answer result is h given =
     made_given make (λ z. f z.0 && g z.1) ok same (option_zip o s) result
     (pair_given f g o s r answer result is h given)
 
--- ---- at the exit of a `?`
+-- ---- early returns by `?`
 
 pub passed_on : {X : Type 0} (result answer : Result X IoFault) (fault : IoFault)
     → IsErrAnd result (λ e. e ≡ fault) → FailsBy fault answer → Gives result answer
@@ -127,12 +127,12 @@ pub passed_on_as : {X : Type 0} (result answer : Result X IoFault) (fault : IoFa
 passed_on_as result answer fault h failed =
     let failing = err_from_is_err_and result h in rw (failing.1, failing.2) (sym failed)
 
--- no shape
+-- without a value, the expected result is the fault BadShape
 pub shapeless : {X : Type 0} (within : X → Bool) (o : Option X) (fault : IoFault) → fault ≡ BadShape → o ≡ None
     → FailsBy fault (value_or_fault within o)
 shapeless within o fault is none = rw (is, none) refl
 
--- what is judged well has a shape and is within the limits
+-- if a check returns a value, the value exists and is within the limits
 pub value_is_ok : {X : Type 0} (f : X → Bool) (o : Option X) (x : X) → value_or_fault f o ≡ Ok x
     → (o ≡ Some x) × (f x ≡ true)
 value_is_ok f None x e = absurd (cc)

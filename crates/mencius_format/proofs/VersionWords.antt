@@ -1,4 +1,4 @@
--- What a version makes of words: what the newest does, where they may stand in it.
+-- A version that allows the words of a text reads them as the newest version does, and any other version reads nothing.
 use Rattle.std.proofs.Common.{◌≡◌, ℕ, ◌+◌, ◌==◌, List, [], ◌∷◌, ◌++◌, take, drop, Bool, true, false, cond, Option, Some, None, option_map, refl, sym, ap, ◌∙◌, codes}
 use Rattle.std.specs.Option.{option_zip}
 use Rattle.std.specs.List.{position}
@@ -35,7 +35,7 @@ made_stands make stands x o s e =
     ap (λ y. option_map make (option_zip x y)) e ∙ ap (option_map make) (zip_stands stands x s)
     ∙ map_stands make stands (option_zip x s)
 
--- what every version has
+-- every version allows a value that needs only the first version
 pub all_stand : {X : Type 0} (version : ℕ) (o : Option X) → o ≡ where_stands (may_stand_in first_version version) o
 all_stand version o = sym (ap (λ bit. where_stands bit o) (first_stands version))
 
@@ -68,7 +68,7 @@ event_in version (word ∷ ws) = by_test _ (bytes_eq word (codes "submit"))
     by_test other true = submit_in version ws
     by_test other false = all_stand version other
 
--- what does not begin as a submission stands in every version
+-- a text that does not begin as a submission needs only the first version
 pub no_submission : (text : List ℕ) → ((rest : List ℕ) → text ≡ codes "submit" ++ 32 ∷ rest → ⊥)
     → event_version (words text) ≡ first_version
 no_submission text none = by_place (position (λ byte. byte == 32) text) refl
@@ -84,7 +84,7 @@ no_submission text none = by_place (position (λ byte. byte == 32) text) refl
         ∙ ap (λ bit. cond bit (submit_version (words (drop (n + 1) text))) first_version)
         (other_text (take n text) (codes "submit") (not_first (codes "submit") text n is none))
 
--- ---- what is read in the newest version needs the version of the word in its place
+-- ---- words of the newest version need exactly the version of the operation that they describe
 
 pub command_needs : (ws : List (List ℕ)) (x : CommandState) → command_of newest_version ws ≡ Some x
     → command_version ws ≡ op_version x.op

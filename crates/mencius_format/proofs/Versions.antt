@@ -1,10 +1,10 @@
--- What came with one version, in others.
+-- A text is allowed in the version that introduced it and in the newest version.
 use Rattle.std.proofs.Common.{◌≡◌, ℕ, ◌&&◌, Bool, true, false, cond, max, nat_le, refl, arith}
 use Rattle.std.proofs.lemmas.Bool.{and_parts}
 use Rattle.std.proofs.lemmas.Bool.Decides.{nat_tests}
 use Rattle.mencius_format.specs.Versions.{first_version, is_version, may_stand_in, newest_version}
 
--- what came with the first stands in all
+-- every version allows a text of the first version
 pub first_stands : (number : ℕ) → may_stand_in first_version number ≡ true
 first_stands number = by_tests (nat_le first_version number) (nat_le number newest_version) refl
   where
@@ -14,7 +14,7 @@ first_stands number = by_tests (nat_le first_version number) (nat_le number newe
     by_tests true false e = refl
     by_tests false d e = refl
 
--- what came with a version stands in that, and in the newest
+-- each version allows the texts that it introduced
 pub stands_in_itself : (version : ℕ) → is_version version ≡ true → may_stand_in version version ≡ true
 stands_in_itself version is = rw is (same version)
   where
@@ -26,7 +26,7 @@ stands_in_newest version is = (and_parts (nat_le first_version version) (nat_le 
 
 -- ---- the greater of two
 
--- stands where both do
+-- a version allows the greater of two versions exactly if it allows both
 pub both_stand : (needed other number : ℕ)
     → may_stand_in (max needed other) number ≡ (may_stand_in needed number && may_stand_in other number)
 both_stand needed other number = below _

@@ -1,4 +1,4 @@
--- An operation before its key and its texts are judged.
+-- Operations whose keys and texts are not checked yet, and the faults of bad bytes and bad lengths.
 use Rattle.std.specs.Prelude.{◌≡◌, Option, Some, None, Result, Ok, Err, if◌then◌else◌}
 use Rattle.mencius_base.specs.declared.command.BadCommand.{BadCommand}
 use Rattle.mencius_base.specs.declared.command.BadCommand.TheVariants.{KeyByte, TextByte, KeyLength, TextLength}
@@ -8,16 +8,17 @@ use Rattle.mencius_io.specs.declared.fault.IoFault.TheVariants.{BadShape, BadLim
 use Rattle.mencius_format.specs.ValuesOrFaults.{value_or_fault, has_no_limit, FailsBy}
 use Rattle.mencius_format.specs.Operations.{has_names}
 
--- the operation, where it has no bad byte
+-- the operation, or None if its key or one of its texts has a byte that is not allowed
 abbrev pub without_bad_byte : Op → Option Op
 without_bad_byte op = if has_names op then Some op else None
 
--- what was returned is what the words say, but for bad bytes; or it is their fault, unless memory ran out
+-- a returned operation is the one that the words describe, unless it has a bad byte. Then the words describe none. A
+-- returned fault is NoMemory, or it is BadShape and the words describe no operation
 abbrev pub Spells : Result Op IoFault → Option Op → Type 0
 Spells (Ok op) said = said ≡ without_bad_byte op
 Spells (Err f) said = FailsBy f (value_or_fault has_no_limit said)
 
--- a bad byte is a bad shape, and a bad length is past a limit
+-- a bad byte is the fault BadShape, and a bad length is BadLimit
 abbrev pub fault_of : BadCommand → IoFault
 fault_of KeyByte = BadShape
 fault_of TextByte = BadShape

@@ -1,8 +1,9 @@
--- What a person calls a word of an event or a command.
+-- The names of the words of an event or a command for a person.
 use Rattle.std.specs.Prelude.{ℕ, List, codes}
 use Rattle.mencius_format.specs.declared.part.Part.{Part}
 use Rattle.mencius_format.specs.declared.part.Part.TheVariants.{Server, Suspected, Message, Id, Key, Text, NamedText}
 
+-- the name of a word for a person, by its kind
 abbrev pub part_name : Part → List ℕ
 part_name Server = codes "the server"
 part_name Suspected = codes "the suspected server"

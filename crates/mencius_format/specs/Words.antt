@@ -5,34 +5,37 @@ use Rattle.std.specs.Char.{is_ascii_digit}
 use Rattle.std.specs.Str.Parse.{digits_value}
 use Rattle.mencius_base.specs.Command.{is_name}
 
--- what stands between the marks
+-- the parts of a text that is split at each byte `mark`. A part may be empty
 abbrev pub parts : ℕ → List ℕ → List (List ℕ)
 parts mark text = slice_split (λ byte. byte == mark) text
 
--- the words, with one space between each and the next
+-- the words of a text. One space separates each word from the next, and a word may be empty
 abbrev pub words : List ℕ → List (List ℕ)
 words text = parts 32 text
 
--- `0`, or a digit 1 to 9 and then digits
+-- the word is `0`, or a digit from 1 to 9 followed by any number of digits
 abbrev pub is_number : List ℕ → Bool
 is_number [] = false
 is_number (byte ∷ bytes) =
     if byte == 48 then length bytes == 0 else is_ascii_digit byte && list_all is_ascii_digit bytes
 
+-- the number of a word in decimal digits, or None if the word is not a number
 unfoldable pub number_of : List ℕ → Option ℕ
 number_of word = if is_number word then Some (digits_value 10 word) else None
 
+-- the word itself, or None if it has a byte that is not allowed in a key or a text
 unfoldable pub name_of : List ℕ → Option (List ℕ)
 name_of word = if is_name word then Some word else None
 
--- one word, which the test reads, and no other
+-- the value that `read` gives for the only word, or None if there is not exactly one word
 abbrev pub single_word : {X : Type 0} → (List ℕ → Option X) → List (List ℕ) → Option X
 single_word read (word ∷ []) = read word
 single_word read _ = None
 
--- the numbers that a byte and four bytes hold
+-- the number fits into one byte
 abbrev pub is_u8 : ℕ → Bool
 is_u8 n = nat_lt n (2 ^ 8)
 
+-- the number fits into four bytes
 abbrev pub is_u32 : ℕ → Bool
 is_u32 n = nat_lt n (2 ^ 32)

@@ -3,8 +3,8 @@ ghost use Rattle.mencius_format.specs.ValuesOrFaults.{both_or_fault};
 
 use mencius_io::IoFault;
 
-/// Both values, or the fault of one of them: a passed limit gives way to the fault of the other,
-/// since shape is judged everywhere before any limit.
+/// Returns both values, or the fault of one of them. If both have a fault, the first one counts, unless it is
+/// `BadLimit`. Then the second one counts, because every part is checked for its shape before any limit.
 pub fn both<A: Drop, B: Drop>(
     first: Result<A, IoFault>,
     second: Result<B, IoFault>,

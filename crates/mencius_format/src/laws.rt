@@ -1,14 +1,14 @@
-//! What holds of all texts. The functions do nothing when they run: each one's contract is a theorem.
+//! Laws of all texts. The functions do nothing when they run. The contract of each one is a theorem.
 
 ghost use Rattle.mencius_format.specs.Laws.{CommandsReadBack, EventsReadBack};
 
-/// What is written is read again. The text of an event says that event, and the text of a command that
-/// command, in each version of a scenario that has its operation: compare and set in the newest alone,
-/// each other one in every version. And both are within the limits of a scenario.
+/// Reading the text of an event returns that event, and reading the text of a command returns that command. Both are
+/// within the limits of a scenario. This holds in each version of a scenario that has the operation. Compare and set is
+/// only in the newest version, and every other operation is in every version.
 ///
-/// This is of every event whose numbers are such as its type holds and whose command is one
-/// (`IsSayable`), as each is that [`push_event`](crate::push_event) writes, and of every command
-/// (`IsCommand`), as each is that [`push_command`](crate::push_command) writes.
+/// The law covers every event with numbers that their types can hold and with an allowed command (`IsSayable`). Each
+/// event that [`push_event`](crate::push_event) has written is one of them. The law also covers every allowed command
+/// (`IsCommand`), such as each one that [`push_command`](crate::push_command) has written.
 pub fn reads_back()
     ensures events { EventsReadBack }
     ensures commands { CommandsReadBack }

@@ -1,10 +1,9 @@
-//! The text of an event and of a command, written and read.
+//! Writes events and commands as text, and reads them again.
 //!
-//! The two stand side by side, over definitions that they share: `writing` makes the text, `words`
-//! cuts it and reads its numbers, and `reading` makes the event or the command of it again, or says
-//! which fault it has. What differs from operation to operation is in `operations`. That what was
-//! written is read again is the law of [`laws`]. Where a text comes from, and where it goes to, is for
-//! the crates above.
+//! Both directions share their definitions. `print` writes the text. `words` splits a text into words and reads its
+//! numbers. `parse` builds the event or the command that a text describes, or returns its fault. `operations` contains
+//! everything that differs from one operation to another. The law in [`laws`] says that a written text is read back
+//! unchanged. The crates above decide where a text comes from and where it goes.
 #![tactic(auto)]
 
 mod both_or_fault;

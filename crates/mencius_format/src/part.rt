@@ -1,14 +1,14 @@
-//! What the words of an event and of a command are about.
+//! The kinds of words in the text of an event or a command.
 
 ghost use Rattle.std.specs.Prelude.{◌≡◌};
 ghost use Rattle.mencius_format.specs.Parts.{part_name};
 
-/// A word behind the first one of an event, or behind the operation of a command.
+/// The kind of a word after the first word of an event, or after the operation of a command.
 #[derive(Clone, Copy, Debug)]
 pub enum Part {
     /// A server, 0 to 255.
     Server,
-    /// A server that is suspected, 0 to 255.
+    /// The suspected server, 0 to 255.
     Suspected,
     /// A message, 0 to 4,294,967,295.
     Message,
@@ -16,14 +16,14 @@ pub enum Part {
     Id,
     /// A key.
     Key,
-    /// The one text of an operation.
+    /// The only text of an operation.
     Text,
-    /// One of several texts of an operation, by what a person calls it.
+    /// One of several texts of an operation, with its name for a person.
     NamedText(&'static str),
 }
 
 impl Part {
-    /// What a person calls the word.
+    /// Returns the name of the word for a person.
     pub fn name(self) -> &'static str
         ensures { result.now ≡ part_name self }
     {

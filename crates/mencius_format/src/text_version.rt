@@ -1,4 +1,4 @@
-//! The least version that a text needs, by the word of its operation: no other word asks for a version.
+//! The lowest version that a text needs. Only the word of its operation decides it.
 
 ghost use Rattle.std.specs.Prelude.{◌≡◌};
 ghost use Rattle.mencius_format.specs.TextVersions.{command_version, event_version, submit_version};
@@ -9,8 +9,8 @@ use crate::parse::behind_submit;
 use crate::version::FIRST_VERSION;
 use crate::words::cut_at_space;
 
-/// The least version that the text of a command needs, by the word that stands where that of its
-/// operation does. The text may have any fault elsewhere.
+/// Returns the lowest version that the text of a command needs. Only the word at the place of its operation decides it.
+/// The rest of the text may have any fault.
 pub fn command_version(text: &str) -> u64
     ensures { result ≡ command_version (words text.now) }
 {
@@ -20,8 +20,8 @@ pub fn command_version(text: &str) -> u64
     }
 }
 
-/// The least version that a submission needs, of what stands behind its first word, by the word that
-/// stands where that of its operation does. The text may have any fault elsewhere.
+/// Returns the lowest version that a submission needs. `text` is the part after the word `submit` and its space. Only
+/// the word at the place of the operation decides the version. The rest of the text may have any fault.
 pub fn submit_version(text: &str) -> u64
     ensures { result ≡ submit_version (words text.now) }
 {
@@ -31,8 +31,9 @@ pub fn submit_version(text: &str) -> u64
     }
 }
 
-/// The least version that the text of an event needs, by the word that stands where that of its
-/// operation does, if it begins as a submission. The text may have any fault elsewhere.
+/// Returns the lowest version that the text of an event needs. If the text begins as a submission, the word at the
+/// place of its operation decides it. Any other text needs only the first version. The rest of the text may have any
+/// fault.
 pub fn event_version(text: &str) -> u64
     ensures { result ≡ event_version (words text.now) }
 {

@@ -1,4 +1,4 @@
-//! The versions of a scenario, by number. Definitions have the same numbers in `specs/Versions.antt`.
+//! The numbers of the versions of a scenario. The definitions in `specs/Versions.antt` have the same numbers.
 
 ghost use Rattle.std.specs.Prelude.{◌≡◌, if◌then◌else◌};
 ghost use Rattle.mencius_format.specs.Versions.{first_version, is_version, may_stand_in};
@@ -9,7 +9,7 @@ pub const FIRST_VERSION: u64 = 1;
 /// The newest version of a scenario.
 pub const NEWEST_VERSION: u64 = 2;
 
-// The version that a number is, or the first.
+// Returns `number` if it is a version, otherwise the first version.
 fn version_or_first(number: u64) -> u64
     ensures { result ≡ (if is_version number then number else first_version) }
 {
@@ -20,8 +20,8 @@ fn version_or_first(number: u64) -> u64
     }
 }
 
-/// Whether what came with the version `needed` may stand in a scenario whose version is said to be
-/// `number`. One that is no version has what the first one has.
+/// Returns whether a text that needs the version `needed` may be in a scenario with the version `number`. A number that
+/// is not a version allows the same texts as the first version.
 pub fn may_stand_in(needed: u64, number: u64) -> bool
     ensures { result ≡ may_stand_in needed number }
 {

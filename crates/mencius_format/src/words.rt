@@ -1,4 +1,4 @@
-//! The words of a text, and those that are numbers.
+//! Splits a text into words, and reads the words that are numbers.
 
 ghost use Rattle.std.specs.Prelude.{ℕ, List, ◌≡◌, ◌≢◌, ◌∷◌, ◌++◌, [], ◌<◌, ◌==◌, IfSome, MatchOption, MatchResult, Some};
 ghost use Rattle.std.specs.List.{list_all, position};
@@ -8,7 +8,8 @@ ghost use Rattle.mencius_format.specs.Words.{is_number, is_u8, is_u32, number_of
 
 use mencius_io::IoFault;
 
-// The text before the first byte `at` and the text behind it. A text that has none is a bad shape.
+// Returns the text before the first byte `at`, and the text after it. Returns `BadShape` if the text does not contain
+// this byte.
 fn cut(text: &str, at: u8) -> Result<(&str, &str), IoFault>
     requires { at < 128 }
     ensures { MatchResult result
@@ -21,8 +22,7 @@ fn cut(text: &str, at: u8) -> Result<(&str, &str), IoFault>
     }
 }
 
-/// The first word of a text and the text behind it, cut at the first space. A text that has no space
-/// is a bad shape.
+/// Returns the first word of a text, and the text after the first space. Returns `BadShape` if the text has no space.
 pub fn cut_at_space(text: &str) -> Result<(&str, &str), IoFault>
     ensures { MatchResult result
         (λ x. words text.now ≡ x.0.now ∷ words x.1.now)
@@ -31,8 +31,8 @@ pub fn cut_at_space(text: &str) -> Result<(&str, &str), IoFault>
     cut(text, b' ')
 }
 
-/// The two numbers of an identity as words, cut at the first dot. A word that has no dot is a bad
-/// shape.
+/// Returns the two numbers of an identity as words, which are the text before the first dot and the text after it.
+/// Returns `BadShape` if the word has no dot.
 pub fn cut_at_dot(word: &str) -> Result<(&str, &str), IoFault>
     ensures { MatchResult result
         (λ x. parts 46 word.now ≡ x.0.now ∷ parts 46 x.1.now)
@@ -41,7 +41,7 @@ pub fn cut_at_dot(word: &str) -> Result<(&str, &str), IoFault>
     cut(word, b'.')
 }
 
-/// What stands behind a word and one space, where the text begins with both.
+/// Returns the text after `word` and one space, or `None` if the text does not begin with both.
 pub(crate) fn behind<'a>(text: &'a str, word: &str) -> Option<&'a str>
     ensures { MatchOption result ((rest : List ℕ) → text.now ≢ word.now ++ 32 ∷ rest)
         (λ rest. text.now ≡ word.now ++ 32 ∷ rest.now) }
@@ -54,8 +54,8 @@ pub(crate) fn behind<'a>(text: &'a str, word: &str) -> Option<&'a str>
     None
 }
 
-// Where a byte stands first. Never inlined: a caller would work out the places behind the byte along
-// with the walk, in four times as many instructions for each byte that is passed.
+// Returns the place of the first byte `wanted`. Never inlined, because a caller would compute the places after that
+// byte during the search. That takes four times as many instructions for each byte.
 #[inline(never)]
 fn first_of(text: &str, wanted: u8) -> Option<usize>
     ensures { result ≡ position (λ x. x == wanted) text.now }
@@ -69,7 +69,7 @@ fn are_digits(bytes: &[u8]) -> bool
     bytes.iter().all(|b| b.is_ascii_digit())
 }
 
-// Whether the word is `0`, or digits of which the first is not 0.
+// Returns whether the word is `0`, or one or more digits that do not begin with 0.
 fn is_number(word: &str) -> bool
     ensures { result ≡ is_number word.now }
 {
@@ -80,7 +80,7 @@ fn is_number(word: &str) -> bool
     }
 }
 
-// The number that a word of one digit is, as most of a schedule's are.
+// Returns the number of a word with exactly one digit. Most numbers of a schedule have one digit.
 #[tactic(auto, unfolding(crate::specs::Words::number_of))]
 fn one_digit(word: &str) -> Option<u8>
     ensures { IfSome result (λ n. (number_of word.now ≡ Some n) × (n < 10)) }
@@ -91,8 +91,8 @@ fn one_digit(word: &str) -> Option<u8>
     }
 }
 
-// The number that a word is which begins with 1 to 9, where it is less than 4,294,967,296. The word is
-// gone through once.
+// Returns the number of a word that begins with 1 to 9, if it is less than 4,294,967,296. It goes through the word
+// once.
 fn read_u32(word: &str) -> Option<u32>
     ensures { IfSome result (λ n. number_of word.now ≡ Some n) }
 {
@@ -106,8 +106,8 @@ fn read_u32(word: &str) -> Option<u32>
     }
 }
 
-/// The number that a word is, 0 to 255: digits, of which the first is a 0 only where it is the one
-/// digit. Another word is a bad shape, and a greater number is past a limit.
+/// Reads a number from 0 to 255, in decimal digits without leading zeros. Returns `BadLimit` for a greater number, and
+/// `BadShape` for any other word.
 #[tactic(auto, using(crate::proofs::NumberWords::parsed), unfolding(crate::specs::Words::number_of))]
 pub fn parse_u8(word: &str) -> Result<u8, IoFault>
     ensures { result ≡ value_or_fault is_u8 (number_of word.now) }
@@ -124,8 +124,8 @@ pub fn parse_u8(word: &str) -> Result<u8, IoFault>
     }
 }
 
-/// The number that a word is, 0 to 4,294,967,295: digits, of which the first is a 0 only where it is
-/// the one digit. Another word is a bad shape, and a greater number is past a limit.
+/// Reads a number from 0 to 4,294,967,295, in decimal digits without leading zeros. Returns `BadLimit` for a greater
+/// number, and `BadShape` for any other word.
 #[tactic(auto, using(crate::proofs::NumberWords::parsed), unfolding(crate::specs::Words::number_of))]
 pub fn parse_u32(word: &str) -> Result<u32, IoFault>
     ensures { result ≡ value_or_fault is_u32 (number_of word.now) }

@@ -1,4 +1,4 @@
--- Whether the bytes are JSON.
+-- Bytes are JSON exactly if they are UTF-8 and their text is JSON.
 use Rattle.std.proofs.Common.{◌≡◌, List, ℕ, None, Some, true, false, refl, cond, Bool}
 use Rattle.std.specs.Prelude.{IsUtf8}
 use Rattle.std.specs.Str.{is_utf8}
@@ -19,7 +19,7 @@ utf8_no bytes h = by_test (is_utf8 bytes) refl
     by_test true e = h (IsUtf8-from_is_utf8 bytes e)
     by_test false e = refl
 
--- what bytes are as JSON they are as a text
+-- bytes that are JSON have the same value as their text
 pub json_read : (bytes : List ℕ) (d : Data) → json_of bytes ≡ Some d → read bytes ≡ Some d
 unfolding json_of
 json_read bytes d is = by_test (is_utf8 bytes) is

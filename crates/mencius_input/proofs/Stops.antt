@@ -1,4 +1,4 @@
--- What stops reading a part stops reading the whole.
+-- A fault that stops reading a part also stops reading the whole.
 use Rattle.std.proofs.Common.{◌≡◌, Result, IfErr, inl, inr, Option, None}
 use Rattle.std.specs.Result.{IsErrAnd}
 use Rattle.std.proofs.lemmas.Result.{err_from_is_err_and}

@@ -1,5 +1,5 @@
--- The fields of the two kinds of scenario: their names, their ranges and their defaults. The code has the same table in
--- `src/field.rt`.
+-- The fields of the two kinds of scenario, with their names, their ranges and their defaults. The code has the same
+-- table in `src/field.rt`.
 use Rattle.std.specs.Prelude.{ℕ, ◌&&◌, ◌++◌, List, [], ◌∷◌, codes, map, not, Bool, false, Option, Some, None, is_some, option_and_then, nat_le}
 use Rattle.std.specs.List.{filter, list_any}
 use Rattle.std.specs.Option.{option_map_or}
@@ -17,68 +17,80 @@ use Rattle.mencius_input.specs.declared.kind.Kind.TheVariants.{Replay, Run}
 
 -- ---- the fields
 
--- a field that is a whole number: its name, its least and its greatest number, and the number that it has if it is missing.
--- A field without this default must not be missing
+-- a field that is a whole number, with its name, its least and greatest number, and its default. The default is the
+-- number of a missing field. A field without a default must not be missing
 pub record WholeField : Type 0 where
   pub name : List ℕ
   pub least : ℕ
   pub greatest : ℕ
   pub default : Option ℕ
 
+-- the field for the version of the scenario
 abbrev pub version_field : WholeField
 version_field = record { name = codes "version"; least = first_version; greatest = newest_version; default = None }
 
+-- the field for the number of servers
 abbrev pub servers_field : WholeField
 servers_field = record { name = codes "servers"; least = 1; greatest = most_servers; default = None }
 
+-- the field for beta, which is 0 if it is missing
 abbrev pub beta_field : WholeField
 beta_field = record { name = codes "beta"; least = 0; greatest = greatest_beta; default = Some 0 }
 
+-- the field for the number of workers
 abbrev pub workers_field : WholeField
 workers_field = record { name = codes "workers"; least = 1; greatest = most_workers; default = None }
 
+-- the field for the seed, which is at most 2 to the 64th minus 1
 abbrev pub seed_field : WholeField
 seed_field = record { name = codes "seed"; least = 0; greatest = 18446744073709551615; default = None }
 
+-- the field for the number of turns of each worker
 abbrev pub turns_field : WholeField
 turns_field = record { name = codes "turns"; least = 0; greatest = most_turns; default = None }
 
+-- the field for the loss
 abbrev pub loss_field : WholeField
 loss_field = record { name = codes "loss"; least = 0; greatest = greatest_loss; default = None }
 
--- the names of the fields that are lists
+-- the name of the field for the events of a schedule
 abbrev pub events_name : List ℕ
 events_name = codes "events"
 
+-- the name of the field for the commands of a run
 abbrev pub commands_name : List ℕ
 commands_name = codes "commands"
 
--- ---- what an object says by a field
+-- ---- the number in a field of an object
 
--- the whole number that a value is
+-- the value as a whole number, if it is one
 abbrev pub whole_in : Data → Option ℕ
 whole_in d = option_and_then as_u64 (as_number d)
 
--- the whole number that a field says, or its default if the field is missing
+-- the whole number in a field, or the field's default if the field is missing
 unfoldable pub number_of : WholeField → Data → Option ℕ
 number_of field d = option_map_or whole_in (get field.name d) field.default
 
+-- whether a number is within the limits of a field
 unfoldable pub is_number_within : WholeField → ℕ → Bool
 is_number_within field n = nat_le field.least n && nat_le n field.greatest
 
 -- ---- the table of the code
 
--- a field: its name, and what its value is
+-- a row of the table, with the name of a field and the shape of its value
 pub record Row : Type 0 where
   pub name : List ℕ
   pub shape : Shape
 
+-- the row of a field that is a whole number
 abbrev pub whole_row : WholeField → Row
 whole_row field = record { name = field.name; shape = shape.Whole field.least field.greatest field.default }
 
+-- the row of a field that is a list
 abbrev pub list_row : List ℕ → Row
 list_row name = record { name = name; shape = shape.List }
 
+-- the row of a field
 abbrev pub row : Field → Row
 row Version = whole_row version_field
 row Servers = whole_row servers_field
@@ -94,7 +106,7 @@ row Commands = list_row commands_name
 abbrev pub shared_fields : List Field
 shared_fields = Version ∷ Servers ∷ Beta ∷ []
 
--- the fields of a run alone that are whole numbers
+-- the fields that are whole numbers and belong only to a run
 abbrev pub run_fields : List Field
 run_fields = Workers ∷ Seed ∷ Turns ∷ Loss ∷ []
 
@@ -108,31 +120,35 @@ abbrev pub list_field : Kind → Field
 list_field Replay = Events
 list_field Run = Commands
 
--- ---- what the table says
+-- ---- the content of the table
 
+-- the name of a field
 abbrev pub field_name : Field → List ℕ
 field_name field = (row field).name
 
--- the number that a field has if it is missing
+-- the number of a missing field with this shape, or none if the field must not be missing
 abbrev pub shape_default : Shape → Option ℕ
 shape_default (shape.Whole least greatest default) = default
 shape_default shape.List = None
 
+-- the number of a field if it is missing, or none if it must not be missing
 abbrev pub default_of : Field → Option ℕ
 default_of field = shape_default (row field).shape
 
--- `number_of` by the table: the whole number of a field whose value may be missing
+-- the whole number in a field with this value, or the default in the table if the value is missing
 abbrev pub number_in : Field → Option Data → Option ℕ
 number_in field value = option_map_or whole_in value (default_of field)
 
+-- the whole number in a field of an object, by the table
 unfoldable pub field_number : Field → Data → Option ℕ
 field_number field d = number_in field (get (field_name field) d)
 
--- `is_number_within` by the table: a whole number is within the limits of the field
+-- whether a whole number is within the limits of a shape
 abbrev pub is_shape_within : Shape → ℕ → Bool
 is_shape_within (shape.Whole least greatest default) n = nat_le least n && nat_le n greatest
 is_shape_within shape.List n = false
 
+-- whether a whole number is within the limits of a field, by the table
 unfoldable pub is_field_within : Field → ℕ → Bool
 is_field_within field n = is_shape_within (row field).shape n
 
@@ -144,9 +160,10 @@ fields kind = whole_fields kind ++ list_field kind ∷ []
 abbrev pub names : Kind → List (List ℕ)
 names kind = map field_name (fields kind)
 
--- the fields that must be there
+-- the fields that must not be missing
 abbrev pub required_fields : Kind → List Field
 required_fields kind = filter (λ field. not (is_some (default_of field))) (fields kind)
 
+-- whether a name is one of some names
 abbrev pub is_one_of : List ℕ → List (List ℕ) → Bool
 is_one_of name names = list_any (bytes_eq name) names

@@ -1,4 +1,4 @@
--- What the bytes of a run's scenario say: a cluster, and the plan that workers follow on it.
+-- The scenario of a run in some bytes. It describes a cluster, and the plan that workers follow on it.
 use Rattle.std.specs.Prelude.{ℕ, ◌==◌, ◌&&◌, List, [], ◌∷◌, length, Bool, Option, Some, option_and_then, Result}
 use Rattle.std.specs.List.{list_all}
 use Rattle.serde_json.specs.Data.{Data}
@@ -15,11 +15,11 @@ use Rattle.mencius_input.specs.Scenario.{◌>>=◌, all_in, all_of, said_by, sce
 
 -- ---- the shape
 
--- a list of texts, each a command's, as a version has them
+-- the commands in a list of texts, by the rules of a version
 abbrev pub commands_read : ℕ → Data → Option (List CommandState)
 commands_read version d = all_in (said_by (command_of version)) d
 
--- the plan, by the fields of a run alone
+-- the plan, from the fields that only a run has
 unfoldable pub plan_read : ℕ → Data → Option PlanState
 plan_read version d = do
   workers ← number_of workers_field d
@@ -36,23 +36,23 @@ run_names = workers_field.name ∷ seed_field.name ∷ turns_field.name ∷ loss
 
 -- ---- the limits
 
--- the numbers of a plan are within their limits
+-- whether the numbers of a plan are within their limits
 abbrev pub are_numbers_within : PlanState → Bool
 are_numbers_within plan =
     is_number_within workers_field plan.workers && is_number_within seed_field plan.seed && is_number_within turns_field plan.turns
     && is_number_within loss_field plan.loss
 
--- the plan is within the limits, and has as many lists as there are servers
+-- whether a plan is within the limits, and has one list for each server
 abbrev pub is_plan_within : Membership → PlanState → Bool
 is_plan_within members plan =
     (are_numbers_within plan && (length plan.commands == members.count)) && list_all (list_all is_command_within) plan.commands
 
--- what an item of a list of commands says in a version, or its fault
+-- the command in an item of a list of commands, or its fault in a version
 abbrev pub command_said : ℕ → Data → Result CommandState IoFault
 command_said version d = value_or_fault is_command_within (said_by (command_of version) d)
 
 -- ---- the bytes
 
--- what the bytes say as a scenario of `run`, or the fault that they have
+-- the scenario of `run` in some bytes, or the fault that they have
 abbrev pub plan : List ℕ → Result (Scenario PlanState) IoFault
 plan bytes = scenario_in run_names plan_read is_plan_within bytes

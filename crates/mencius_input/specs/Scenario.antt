@@ -1,4 +1,4 @@
--- What the bytes of a scenario say, or what is wrong with them.
+-- The scenario in some bytes, or their fault.
 use Rattle.std.specs.Prelude.{ℕ, ◌&&◌, List, [], ◌∷◌, Bool, true, Option, Some, None, option_and_then, Result, Err, if◌then◌else◌}
 use Rattle.std.specs.List.{list_all, list_any}
 use Rattle.std.specs.Option.{option_map_or}
@@ -22,7 +22,7 @@ o >>= f = option_and_then f o
 
 -- ---- the shape
 
--- each of some items, read in order
+-- the results of reading some items in order, if each of them can be read
 unfoldable pub all_of : {X : Type 0} → (Data → Option X) → Items → Option (List X)
 all_of read no_items = Some []
 all_of read (item d ds) = do
@@ -30,21 +30,21 @@ all_of read (item d ds) = do
   xs ← all_of read ds
   Some (x ∷ xs)
 
--- a list, each item read in order
+-- the results of reading the items of a list in order
 abbrev pub all_in : {X : Type 0} → (Data → Option X) → Data → Option (List X)
 all_in read d = option_and_then (all_of read) (as_array d)
 
--- a text, read by its words
+-- the result of reading the words of a text
 abbrev pub said_by : {X : Type 0} → (List (List ℕ) → Option X) → Data → Option X
 said_by read d = option_and_then (λ text. read (words text)) (as_str d)
 
--- each field of an object has one of these names
+-- whether each field of an object has one of these names
 unfoldable pub has_only : List (List ℕ) → Members → Bool
 has_only names no_members = true
 has_only names (member name d ms) = list_any (bytes_eq name) names && has_only names ms
 
--- an object with the fields of both kinds of scenario and fields of these other names. Its course is read as its version
--- has it
+-- the scenario in an object. The object has only fields of both kinds and fields with the names `others`. The course is
+-- read by the rules of the scenario's version
 unfoldable pub scenario_of : {X : Type 0} → List (List ℕ) → (ℕ → Data → Option X) → Data → Option (Scenario X)
 scenario_of others course_of d = do
   fields ← as_object d
@@ -55,46 +55,47 @@ scenario_of others course_of d = do
   if has_only (version_field.name ∷ servers_field.name ∷ beta_field.name ∷ others) fields
       then Some (record { version = version; members = record { count = servers; beta = beta }; course = course }) else None
 
--- the events in order, each a text, as a version has them
+-- the events of a schedule in order, each read from a text by the rules of a version
 unfoldable pub schedule_of : ℕ → Data → Option (List Event)
 schedule_of version d = do
   items ← option_and_then as_array (get events_name d)
   all_of (said_by (event_of version)) items
 
--- a scenario of `replay`
+-- the scenario of `replay` in a value
 abbrev pub written_of : Data → Option (Scenario (List Event))
 written_of d = scenario_of (events_name ∷ []) schedule_of d
 
 -- ---- the limits
 
--- the numbers are within their limits, and the course is within its own, which the members may set
+-- whether the numbers of a scenario are within their limits, and the course fits its members
 abbrev pub is_scenario_within : {X : Type 0} → (Membership → X → Bool) → Scenario X → Bool
 is_scenario_within fits x =
     ((is_number_within version_field x.version && is_number_within servers_field x.members.count)
     && is_number_within beta_field x.members.beta)
     && fits x.members x.course
 
--- a scenario of `replay` is within the limits
+-- whether a scenario of `replay` is within the limits
 abbrev pub is_within_limits : Scenario (List Event) → Bool
 is_within_limits x = is_scenario_within (λ members. list_all is_event_within) x
 
--- what an item of the events says in a version, or its fault
+-- the event in an item of the events, or its fault in a version
 abbrev pub item_said : ℕ → Data → Result Event IoFault
 item_said version d = value_or_fault is_event_within (said_by (event_of version) d)
 
 -- ---- the bytes
 
--- the value that the bytes are as JSON, in UTF-8
+-- the value of bytes that are JSON, in UTF-8
 unfoldable pub json_of : List ℕ → Option Data
 json_of bytes = if is_utf8 bytes then read bytes else None
 
--- what the bytes say as a scenario with these other fields, or their fault. Its course is read and must fit as given
+-- the scenario in some bytes, or their fault. Its object may also have fields with the names `others`. `course_of`
+-- reads its course, and `fits` gives the limits of the course
 abbrev pub scenario_in : {X : Type 0} → List (List ℕ) → (ℕ → Data → Option X) → (Membership → X → Bool) → List ℕ
     → Result (Scenario X) IoFault
 scenario_in others course_of fits bytes =
     option_map_or (λ d. value_or_fault (is_scenario_within fits) (scenario_of others course_of d)) (json_of bytes)
     (Err NotJson)
 
--- what the bytes say as a scenario of `replay`, or their fault
+-- the scenario of `replay` in some bytes, or their fault
 abbrev pub scenario : List ℕ → Result (Scenario (List Event)) IoFault
 scenario bytes = scenario_in (events_name ∷ []) schedule_of (λ members. list_all is_event_within) bytes

@@ -1,4 +1,4 @@
-//! Where a scenario is wrong, in a person's words.
+//! Says in words where a scenario is wrong.
 
 ghost use Rattle.std.specs.Prelude.{◌≡◌, ◌∷◌, ◌++◌, IfOk, OnOk, codes, decimal, option_map, string_bytes};
 ghost use Rattle.mencius_input.specs.Places.{place_state};
@@ -15,7 +15,7 @@ use mencius_io::IoFault;
 use mencius_json::{Crowd, crowd_in, stop_in};
 use std::alloc::Global;
 
-// What a number past a range is.
+// Describes a number that is out of a range.
 fn range_words(alloc: Global, least: u64, greatest: u64) -> Result<String, NoMemory>
     ensures { IfOk result (λ s. string_bytes s ≡ range_words least greatest) }
 {
@@ -26,7 +26,7 @@ fn range_words(alloc: Global, least: u64, greatest: u64) -> Result<String, NoMem
     }
 }
 
-// What a number past the limits of a field is.
+// Describes a number that is out of the limits of a field.
 #[tactic(auto, unfolding(crate::specs::Explanations::limit_words))]
 fn limit_words(alloc: Global, field: Field) -> Result<String, NoMemory>
     ensures { IfOk result (λ s. string_bytes s ≡ limit_words field) }
@@ -41,7 +41,7 @@ fn limit_words(alloc: Global, field: Field) -> Result<String, NoMemory>
     }
 }
 
-// What is wrong with a field that should be a whole number.
+// Describes the problem with a field that should be a whole number.
 fn number_words(alloc: Global, field: Field, fault: IoFault) -> Result<String, NoMemory>
     ensures { IfOk result (λ s. string_bytes s ≡ number_words fault field) }
 {
@@ -51,7 +51,7 @@ fn number_words(alloc: Global, field: Field, fault: IoFault) -> Result<String, N
     }
 }
 
-// What a kind of scenario is called.
+// Returns the name of a kind of scenario.
 fn kind_name(kind: Kind) -> &'static str
     ensures { result.now ≡ kind_name kind }
 {
@@ -61,7 +61,7 @@ fn kind_name(kind: Kind) -> &'static str
     }
 }
 
-// Adds which fields there are, behind the name of one that there is not.
+// Appends the names of all fields of the kind, to follow the name of an unknown field.
 fn push_unknown(words: &mut String, kind: Kind) -> Result<(), NoMemory>
     ensures { OnOk result (string_bytes words.new ≡ string_bytes words.old ++ unknown_words kind) }
 {
@@ -77,7 +77,7 @@ fn push_unknown(words: &mut String, kind: Kind) -> Result<(), NoMemory>
     Ok(())
 }
 
-// What is said of a field that a scenario has.
+// Returns the words about a field that a scenario has.
 fn of_field(alloc: Global, field: Field, said: &str) -> Result<String, NoMemory>
     ensures { IfOk result (λ s. string_bytes s ≡ field_words field said.now) }
 {
@@ -85,7 +85,7 @@ fn of_field(alloc: Global, field: Field, said: &str) -> Result<String, NoMemory>
     Ok(format!(in alloc; "the field \"{name}\" is {said}")?)
 }
 
-// What is said of a field that no scenario of the kind has.
+// Returns the words about a field that no scenario of the kind has.
 fn of_unknown(alloc: Global, kind: Kind, name: &str) -> Result<String, NoMemory>
     ensures { IfOk result (λ s. string_bytes s ≡ shown_text name.now ++ unknown_words kind) }
 {
@@ -94,7 +94,7 @@ fn of_unknown(alloc: Global, kind: Kind, name: &str) -> Result<String, NoMemory>
     Ok(words)
 }
 
-// What is said of a text, behind it.
+// Returns a text in quotes, followed by the words about it.
 fn of_text(alloc: Global, text: &str, said: &str) -> Result<String, NoMemory>
     ensures { IfOk result (λ s. string_bytes s ≡ shown_text text.now ++ 58 ∷ 32 ∷ said.now) }
 {
@@ -102,7 +102,7 @@ fn of_text(alloc: Global, text: &str, said: &str) -> Result<String, NoMemory>
     Ok(format!(in alloc; "{text}: {said}")?)
 }
 
-// What is said of an event or a command.
+// Returns the words about an event or a command.
 fn of_item(
     alloc: Global,
     kind: Kind,
@@ -121,7 +121,7 @@ fn of_item(
     }
 }
 
-// What is said of an event.
+// Returns the words about an event, with its index.
 fn of_event(alloc: Global, index: usize, said: &str) -> Result<String, NoMemory>
     ensures { IfOk result (λ s. string_bytes s
         ≡ codes "event " ++ decimal index ++ 32 ∷ said.now) }
@@ -129,7 +129,7 @@ fn of_event(alloc: Global, index: usize, said: &str) -> Result<String, NoMemory>
     Ok(format!(in alloc; "event {index} {said}")?)
 }
 
-// What is said of a command.
+// Returns the words about a command, with its list and its index.
 fn of_command(alloc: Global, list: usize, index: usize, said: &str) -> Result<String, NoMemory>
     ensures { IfOk result (λ s. string_bytes s
         ≡ codes "command " ++ decimal index ++ codes " of list " ++ decimal list ++ 32 ∷ said.now) }
@@ -137,7 +137,7 @@ fn of_command(alloc: Global, list: usize, index: usize, said: &str) -> Result<St
     Ok(format!(in alloc; "command {index} of list {list} {said}")?)
 }
 
-// What is said of an item of the commands that is no list.
+// Returns the words about an item of the commands that is not a list.
 fn of_list(alloc: Global, list: usize) -> Result<String, NoMemory>
     ensures { IfOk result (λ s. string_bytes s
         ≡ codes "item " ++ decimal list ++ codes " of the field \"commands\" is no list") }
@@ -145,14 +145,14 @@ fn of_list(alloc: Global, list: usize) -> Result<String, NoMemory>
     Ok(format!(in alloc; "item {list} of the field \"commands\" is no list")?)
 }
 
-// How many lists there are, and how many servers.
+// Returns the number of lists and the number of servers, in words.
 fn counts(alloc: Global, lists: usize, servers: u64) -> Result<String, NoMemory>
     ensures { IfOk result (λ s. string_bytes s ≡ counts_words lists servers) }
 {
     Ok(format!(in alloc; "lists {lists}, servers {servers}")?)
 }
 
-// What is said of commands that are not one list for each server.
+// Returns the words about commands that are not one list for each server.
 fn of_lists(alloc: Global, count: usize, servers: u64) -> Result<String, NoMemory>
     ensures { IfOk result (λ s. string_bytes s ≡ field_words Field.Commands
         (codes "not one list for each server: " ++ counts_words count servers)) }
@@ -162,7 +162,7 @@ fn of_lists(alloc: Global, count: usize, servers: u64) -> Result<String, NoMemor
     of_field(alloc, Field::Commands, said.as_str())
 }
 
-// What is wrong at a place that has the fault.
+// Describes the problem at a place that has the fault.
 fn wrong_place(alloc: Global, kind: Kind, place: &Place, fault: IoFault) -> Result<String, NoMemory>
     ensures { IfOk result (λ s. ExplainsPlace kind fault (place_state place.now) (string_bytes s)) }
 {
@@ -201,7 +201,7 @@ fn wrong_place(alloc: Global, kind: Kind, place: &Place, fault: IoFault) -> Resu
     }
 }
 
-// What is said where a sign stands so often in the text that no place is looked for.
+// Returns the words about a text with too many signs for a search for the place.
 fn crowd_words(crowd: Crowd) -> &'static str
     ensures { result.now ≡ crowd_words crowd }
 {
@@ -216,7 +216,7 @@ fn crowd_words(crowd: Crowd) -> &'static str
     }
 }
 
-// What is said where no place was found that has the fault.
+// Returns the words about a fault if no place with this fault was found.
 fn unplaced(fault: IoFault) -> &'static str
     ensures { result.now ≡ unplaced_words fault }
 {
@@ -226,7 +226,7 @@ fn unplaced(fault: IoFault) -> &'static str
     }
 }
 
-// Where the shape is bad or a limit is passed.
+// Describes the place where the shape is bad or a limit is passed.
 fn tell_place(alloc: Global, kind: Kind, bytes: &[u8], fault: IoFault) -> Result<String, NoMemory>
     ensures { IfOk result (λ s. IsPlaced kind fault bytes.now (string_bytes s)) }
 {
@@ -239,19 +239,21 @@ fn tell_place(alloc: Global, kind: Kind, bytes: &[u8], fault: IoFault) -> Result
     }
 }
 
-/// Says where the scenario in `bytes`, which is read as one of the kind, has its fault, in one line of a
-/// person's words: for `NotJson` the line and the column, in characters from 1; for `BadShape` and
-/// `BadLimit` the field, or the event or the command by its index from 0 and its text, and which word of
-/// it. It is the first place in the text that has the fault; of a text of which no tree is made, as
-/// [`crowd_in`](mencius_json::crowd_in) has it, no place is told. There is no line feed at the end and no
-/// other control character.
+/// Says in one line of words where the scenario in `bytes` has its fault. `kind` is the kind of scenario that the bytes
+/// are read as. `fault` is the fault that [`read_scenario`](crate::read_scenario), or [`read_plan`](crate::read_plan)
+/// for a run, returns for the bytes.
 ///
-/// `fault` is what [`read_scenario`](crate::read_scenario), or for a run
-/// [`read_plan`](crate::read_plan), answers for the bytes.
+/// - For `NotJson`, the words name the line and the column. Both count from 1, and the column counts characters.
+/// - For `BadShape` and `BadLimit`, the words name the field, the event or the command. They give an event or a command
+///   by its index from 0 and by its text, and say which word of it is wrong.
+///
+/// The place is the first place in the text that has the fault. If the text has too many signs for a tree (see
+/// [`crowd_in`](mencius_json::crowd_in)), the words name no place. The line does not end in a line feed, and contains
+/// no other control character.
 ///
 /// # Errors
 ///
-/// `NoMemory` where memory ran out.
+/// `NoMemory` if memory ran out.
 pub fn explain(alloc: Global, kind: Kind, bytes: &[u8], fault: IoFault) -> Result<String, NoMemory>
     ensures { IfOk result (λ s. Explains kind fault bytes.now (string_bytes s)) }
 {
@@ -263,12 +265,12 @@ pub fn explain(alloc: Global, kind: Kind, bytes: &[u8], fault: IoFault) -> Resul
     }
 }
 
-/// Says why bytes were not read to their end, in one line of a person's words. `fault` is what
-/// [`read_all`](crate::read_all) answers: `BadLimit` where there are too many bytes.
+/// Says in one line of words why bytes were not read to their end. `fault` is the fault that
+/// [`read_all`](mencius_io::read_all) returns, which is `BadLimit` if there are too many bytes.
 ///
 /// # Errors
 ///
-/// `NoMemory` where memory ran out.
+/// `NoMemory` if memory ran out.
 pub fn explain_unread(alloc: Global, fault: IoFault) -> Result<String, NoMemory>
     ensures { IfOk result (λ s. ExplainsUnread fault (string_bytes s)) }
 {

@@ -1,4 +1,4 @@
-//! Which events and commands have a fault.
+//! Finds the events and commands that have a fault.
 
 ghost use Rattle.std.specs.Prelude.{◌≡◌, IfOk, None, Ok, Some, not, option_map, string_bytes};
 ghost use Rattle.std.specs.Result.{result_err};
@@ -18,7 +18,7 @@ use mencius_io::IoFault;
 use serde_json::Value;
 use std::alloc::Global;
 
-/// The first of the items that has the fault.
+/// Finds the first item that has the fault. Returns its index, from 0, and its text if it is a string.
 pub(crate) fn first_item(
     alloc: Global,
     kind: Kind,
@@ -38,7 +38,7 @@ pub(crate) fn first_item(
     Ok(None)
 }
 
-// Whether an item has the fault.
+// Returns whether an item has the fault.
 fn has_fault(
     alloc: Global,
     kind: Kind,
@@ -52,7 +52,7 @@ fn has_fault(
     Ok(is_fault(fault, found))
 }
 
-// Whether what was found is the fault.
+// Returns whether `found` is the fault. Only `BadShape` and `BadLimit` count.
 fn is_fault(fault: IoFault, found: Option<IoFault>) -> bool
     ensures { result ≡ is_fault fault found }
 {
@@ -63,21 +63,21 @@ fn is_fault(fault: IoFault, found: Option<IoFault>) -> bool
     }
 }
 
-/// Whether the fault is a bad shape.
+/// Returns whether the fault is `BadShape`.
 pub(crate) fn is_shape(fault: IoFault) -> bool
     ensures { result ≡ is_shape fault }
 {
     matches!(fault, IoFault::BadShape)
 }
 
-/// Whether the fault is a limit that is passed.
+/// Returns whether the fault is `BadLimit`.
 pub(crate) fn is_limit(fault: IoFault) -> bool
     ensures { result ≡ is_limit fault }
 {
     matches!(fault, IoFault::BadLimit)
 }
 
-// The fault of an item.
+// Returns the fault of an item in this version, if it has one.
 fn fault_of_item(
     alloc: Global,
     kind: Kind,
@@ -92,14 +92,14 @@ fn fault_of_item(
     newest_fault_of_item(alloc, kind, item)
 }
 
-// Whether an item needs a later version than this.
+// Returns whether this version does not allow an item.
 fn is_too_new(kind: Kind, version: u64, item: &Value) -> bool
     ensures { result ≡ not (may_stand_in (item_version kind (view item.now)) version) }
 {
     !may_stand_in(item_version(kind, item), version)
 }
 
-// The least version that an item needs, by the word of its operation alone.
+// Returns the lowest version that an item needs. Only the word of its operation decides this.
 fn item_version(kind: Kind, item: &Value) -> u64
     ensures { result ≡ item_version kind (view item.now) }
 {
@@ -110,7 +110,7 @@ fn item_version(kind: Kind, item: &Value) -> u64
     }
 }
 
-// The fault that an item has in the newest version.
+// Returns the fault of an item in the newest version, if it has one.
 fn newest_fault_of_item(
     alloc: Global,
     kind: Kind,
@@ -125,7 +125,7 @@ fn newest_fault_of_item(
     }
 }
 
-// The fault of an event in the newest version.
+// Returns the fault of an event in the newest version, if it has one.
 fn fault_of_event(alloc: Global, text: &str) -> Result<Option<IoFault>, NoMemory>
     ensures { IfOk result (λ o.
         o ≡ result_err (value_or_fault is_event_within (event_of newest_version (words text.now)))) }
@@ -136,7 +136,7 @@ fn fault_of_event(alloc: Global, text: &str) -> Result<Option<IoFault>, NoMemory
     }
 }
 
-// The fault of a command in the newest version.
+// Returns the fault of a command in the newest version, if it has one.
 fn fault_of_command(alloc: Global, text: &str) -> Result<Option<IoFault>, NoMemory>
     ensures { IfOk result (λ o.
         o ≡ result_err
@@ -148,7 +148,7 @@ fn fault_of_command(alloc: Global, text: &str) -> Result<Option<IoFault>, NoMemo
     }
 }
 
-// The text that an item is, if it is one.
+// Returns the text of an item, if the item is a string.
 fn text_of_item(alloc: Global, item: &Value) -> Result<Option<String>, NoMemory>
     ensures { IfOk result (λ o. option_map string_bytes o ≡ as_str (view item.now)) }
 {

@@ -1,5 +1,5 @@
-//! The fields of the scenarios: one table of their names, their ranges and what a missing one is.
-//! Definitions have the same table in `specs/FieldsOf.antt`.
+//! The table of the fields of scenarios, with their names, their ranges and their defaults. `specs/FieldsOf.antt`
+//! defines the same table.
 
 ghost use Rattle.std.specs.Prelude.{◌≡◌, position};
 ghost use Rattle.std.specs.Str.{bytes_eq};
@@ -9,7 +9,7 @@ use crate::kind::Kind;
 use mencius_base::{GREATEST_BETA, GREATEST_LOSS, MOST_SERVERS, MOST_TURNS, MOST_WORKERS};
 use mencius_format::{FIRST_VERSION, NEWEST_VERSION};
 
-/// A field of a scenario of `replay`, of one of `run`, or of both.
+/// A field of a scenario of `replay`, of a scenario of `run`, or of both.
 #[derive(Clone, Copy, Debug, PartialEq, Eq)]
 pub enum Field {
     Version,
@@ -23,10 +23,11 @@ pub enum Field {
     Commands,
 }
 
-/// What the value of a field is.
+/// The shape of a field's value.
 #[derive(Clone, Copy)]
 pub(crate) enum Shape {
-    /// A whole number from the least to the greatest, and what it is where the field is missing, if it may be.
+    /// A whole number from `least` to `greatest`. `default` is the number of a missing field, or `None` if the field
+    /// must not be missing.
     Whole {
         least: u64,
         greatest: u64,
@@ -36,14 +37,14 @@ pub(crate) enum Shape {
     List,
 }
 
-// A row of the table: the name of a field, and what its value is.
+// A row of the table, with the name of a field and the shape of its value.
 #[derive(Clone, Copy)]
 pub(crate) struct Row {
     pub name: &'static str,
     pub shape: Shape,
 }
 
-// The fields that are whole numbers: those of both kinds come first.
+// The fields that are whole numbers. The fields of both kinds come first.
 const WHOLE_FIELDS: [Field; 7] = [
     Field::Version,
     Field::Servers,
@@ -54,10 +55,10 @@ const WHOLE_FIELDS: [Field; 7] = [
     Field::Loss,
 ];
 
-// How many of them both kinds have.
+// The number of whole numbers that both kinds have.
 const SHARED: usize = 3;
 
-// The row of a field that is a whole number.
+// Returns the row of a field that is a whole number.
 fn whole_row(name: &'static str, least: u64, greatest: u64, default: Option<u64>) -> Row
     ensures name { result.name.now ≡ name.now }
     ensures shape { result.shape ≡ Shape.Whole least greatest default }
@@ -70,7 +71,7 @@ fn whole_row(name: &'static str, least: u64, greatest: u64, default: Option<u64>
     Row { name, shape }
 }
 
-// The row of a field that is a list.
+// Returns the row of a field that is a list.
 fn list_row(name: &'static str) -> Row
     ensures name { result.name.now ≡ name.now }
     ensures shape { result.shape ≡ Shape.List }
@@ -80,7 +81,7 @@ fn list_row(name: &'static str) -> Row
 }
 
 impl Field {
-    // The row of the field.
+    // Returns the row of the field.
     fn row(self) -> Row
         ensures name { result.name.now ≡ field_name self }
         ensures shape { result.shape ≡ (row self).shape }
@@ -98,21 +99,21 @@ impl Field {
         }
     }
 
-    /// The name of the field.
+    /// Returns the name of the field.
     pub(crate) fn name(self) -> &'static str
         ensures { result.now ≡ field_name self }
     {
         self.row().name
     }
 
-    /// What the value of the field is.
+    /// Returns the shape of the field's value.
     pub(crate) fn shape(self) -> Shape
         ensures { result ≡ (row self).shape }
     {
         self.row().shape
     }
 
-    /// What the field is where it is missing, if it may be.
+    /// Returns the number of the field if it is missing, or `None` if it must not be missing.
     pub(crate) fn default(self) -> Option<u64>
         ensures { result ≡ default_of self }
     {
@@ -122,7 +123,7 @@ impl Field {
         }
     }
 
-    /// Whether a whole number is within the limits of the field.
+    /// Returns whether a whole number is within the limits of the field.
     #[tactic(auto, unfolding(crate::specs::FieldsOf::is_field_within))]
     pub(crate) fn is_within(self, number: u64) -> bool
         ensures { result ≡ is_field_within self number }
@@ -138,7 +139,7 @@ impl Field {
     }
 }
 
-/// The fields of a kind that are whole numbers.
+/// Returns the fields of a kind that are whole numbers.
 pub(crate) fn whole_fields(kind: Kind) -> &'static [Field]
     ensures { result.now ≡ whole_fields kind }
 {
@@ -148,14 +149,14 @@ pub(crate) fn whole_fields(kind: Kind) -> &'static [Field]
     }
 }
 
-/// The fields of a run alone that are whole numbers.
+/// Returns the fields that are whole numbers and belong only to `run`.
 pub(crate) fn run_fields() -> &'static [Field]
     ensures { result.now ≡ run_fields }
 {
     &WHOLE_FIELDS[SHARED..]
 }
 
-/// The field of a kind that is a list.
+/// Returns the field of a kind that is a list.
 pub(crate) fn list_field(kind: Kind) -> Field
     ensures { result ≡ list_field kind }
 {
@@ -165,7 +166,7 @@ pub(crate) fn list_field(kind: Kind) -> Field
     }
 }
 
-/// The index, among the fields of a kind that are whole numbers, of the one of this name.
+/// Returns the index of the field with this name among the fields of a kind that are whole numbers.
 pub(crate) fn index_of_name(kind: Kind, name: &str) -> Option<usize>
     ensures { result ≡ position (λ field. bytes_eq name.now (field_name field)) (whole_fields kind) }
 {

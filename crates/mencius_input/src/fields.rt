@@ -1,4 +1,4 @@
-//! The fields of a scenario's object, read one after the other.
+//! Reads the fields of a scenario's object, one after another.
 
 ghost use Rattle.std.specs.Prelude.{◌≡◌, ◌<◌, IfErr, IfOk, OnOk, Some, length, map, option_map};
 ghost use Rattle.serde_json.specs.Data.{Data, Members, put};
@@ -21,26 +21,25 @@ use mencius_io::IoFault;
 use mencius_json::{MOST_DEPTH, enter_object, next_whole, pass};
 use std::alloc::Global;
 
-/// What is known of the fields that were read. A field that was written twice says what was written
-/// last.
+/// The values of the fields that were read. If a field was written twice, its last value counts.
 #[derive(Drop)]
 pub(crate) struct FieldValues {
-    /// The number that each field is which has to be one, in the order of the table.
+    /// The number of each field that must be a whole number, if it has one, in the order of the table.
     pub wholes: Vec<Option<u64>>,
-    /// What the list says.
+    /// The content of the field that is a list, if this field was read.
     pub list: Option<KeptList>,
     /// Whether there is a field that no scenario of the kind has.
     pub has_other: bool,
 }
 
-/// What was kept of the list of a scenario.
+/// The content of the list of a scenario.
 #[derive(Drop)]
 pub(crate) enum KeptList {
     Events(Newest<Events>),
     Commands(Newest<Vec<Vec<Command>>>),
 }
 
-// What the fields are that are whole numbers, before any was read.
+// Returns the numbers of the fields before any field was read.
 fn defaults(alloc: Global, kind: Kind) -> Result<Vec<Option<u64>>, NoMemory>
     ensures { IfOk result (λ wholes. wholes.items ≡ map default_of (whole_fields kind)) }
 {
@@ -51,8 +50,8 @@ fn defaults(alloc: Global, kind: Kind) -> Result<Vec<Option<u64>>, NoMemory>
     Ok(wholes)
 }
 
-/// The fields of the scenario of a kind that a JSON text says. Bytes that are not JSON are `NotJson`; a
-/// value that is no object, or one with a field that no scenario of the kind has, is `BadShape`.
+/// Reads bytes as a scenario of the kind and returns its fields. Fails with `NotJson` if the bytes are not JSON. Fails
+/// with `BadShape` if their value is not an object, or has a field that no scenario of the kind has.
 #[tactic(auto, using(crate::proofs::JsonTexts::utf8_yes, crate::proofs::JsonTexts::utf8_no))]
 pub(crate) fn read_fields(alloc: Global, kind: Kind, bytes: &[u8]) -> Result<FieldValues, IoFault>
     ensures ok { IfOk result (λ f. AreAll kind f (json_of bytes.now)) }
@@ -64,7 +63,7 @@ pub(crate) fn read_fields(alloc: Global, kind: Kind, bytes: &[u8]) -> Result<Fie
     }
 }
 
-// The fields of the scenario that a text says.
+// Reads a text as a scenario of the kind and returns its fields.
 fn read_text(alloc: Global, kind: Kind, text: &str) -> Result<FieldValues, IoFault>
     ensures ok { IfOk result (λ f. AreAll kind f (read text.now)) }
     ensures err { IfErr result (IsUnread kind (read text.now)) }
@@ -78,7 +77,8 @@ fn read_text(alloc: Global, kind: Kind, text: &str) -> Result<FieldValues, IoFau
     fields
 }
 
-// The fields of the scenario that the next value is, or its fault.
+// Reads the next value as a scenario of the kind. The inner result contains its fields or its fault. The outer result
+// fails only if no value comes next or memory ran out.
 fn next_scenario(
     alloc: Global,
     kind: Kind,
@@ -100,7 +100,7 @@ fn next_scenario(
     }
 }
 
-// The fields of the object whose brace was read, which is meant as a scenario of the kind.
+// Reads the fields of an object that is meant as a scenario of the kind. Its opening brace was read already.
 fn next_fields(
     alloc: Global,
     kind: Kind,
@@ -125,7 +125,7 @@ fn next_fields(
     Ok(fields)
 }
 
-// Reads the value of a field.
+// Reads the value of the field with this name into `fields`.
 fn read_field(
     alloc: Global,
     kind: Kind,
@@ -149,7 +149,7 @@ fn read_field(
         }
         None => {
             if name == list_field(kind).name() {
-                // What an earlier one says is let go first, so that only one list takes room.
+                // The content of an earlier field with this name is dropped first, so that only one list uses memory.
                 fields.list = None;
                 let kept = next_list(alloc, kind, reader, depth)?;
                 fields.list = Some(kept);
@@ -162,7 +162,7 @@ fn read_field(
     Ok(())
 }
 
-// What the next value says as the list of a scenario of the kind.
+// Reads the next value as the list of a scenario of the kind.
 fn next_list(
     alloc: Global,
     kind: Kind,

@@ -1,4 +1,4 @@
-//! Which of the two kinds of scenario a text is meant as.
+//! Decides which kind of scenario a text is meant as.
 
 ghost use Rattle.std.specs.Prelude.{◌≡◌, IfOk};
 ghost use Rattle.serde_json.specs.View.{view};
@@ -10,7 +10,7 @@ use mencius_json::{crowd_in, tree_of};
 use serde_json::Value;
 use std::alloc::Global;
 
-/// What a scenario is for.
+/// The kind of a scenario.
 #[derive(Clone, Copy, Debug, PartialEq, Eq)]
 pub enum Kind {
     /// Events that are replayed or traced.
@@ -19,14 +19,14 @@ pub enum Kind {
     Run,
 }
 
-// Whether a field is there.
+// Returns whether a field is present.
 fn has_field(field: Field, value: &Value) -> bool
     ensures { result ≡ has_field field (view value.now) }
 {
     value.get(field.name()).is_some()
 }
 
-// Whether a field is there that only the scenario of a run has.
+// Returns whether any field is present that only the scenario of a run has.
 #[tactic(auto, unfolding(crate::specs::Kinds::has_run_field))]
 fn has_run_field(value: &Value) -> bool
     ensures { result ≡ has_run_field (view value.now) }
@@ -39,7 +39,7 @@ fn has_run_field(value: &Value) -> bool
     has_field(Field::Commands, value)
 }
 
-// The kind that a value is meant as.
+// Returns the kind that a value is meant as.
 fn kind_of_value(value: &Value) -> Kind
     ensures { result ≡ kind_of (view value.now) }
 {
@@ -50,13 +50,14 @@ fn kind_of_value(value: &Value) -> Kind
     }
 }
 
-/// The kind of scenario that a text is meant as, by its fields: a run's, where it has no field
-/// `events` and a field that a run alone has, as `workers` or `commands`, and else one of `replay`. So
-/// is what is no JSON, and a text of which no tree is made, as [`crowd_in`](mencius_json::crowd_in) has it.
+/// Returns the kind of scenario that a text is meant as. The fields of the text decide this. The kind is `Run` if the
+/// text has no field `events`, but a field that only a run has, such as `workers` or `commands`. Otherwise it is
+/// `Replay`. It is also `Replay` if the text is not JSON, or has too many signs for a tree (see
+/// [`crowd_in`](mencius_json::crowd_in)).
 ///
 /// # Errors
 ///
-/// `NoMemory` where memory ran out.
+/// `NoMemory` if memory ran out.
 #[tactic(auto, using(crate::proofs::JsonTexts::utf8_yes, crate::proofs::JsonTexts::utf8_no))]
 pub fn kind_of(alloc: Global, bytes: &[u8]) -> Result<Kind, NoMemory>
     ensures { IfOk result (λ kind. kind ≡ kind_in bytes.now) }

@@ -1,6 +1,5 @@
-//! What the input of the program says, read exactly: the bytes of a scenario. That a mistake in them has
-//! a place is the law of [`laws`]. The faults that end a run, and its readers and writers, are those of
-//! `mencius_io`.
+//! Reads the input of the program, the bytes of a scenario, exactly. The law in [`laws`] says that each mistake in them
+//! has a place. The faults that end a run are in `mencius_io`, and so are its readers and writers.
 #![tactic(auto)]
 
 mod commands;

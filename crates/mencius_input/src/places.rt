@@ -1,4 +1,4 @@
-//! Where a scenario has a fault.
+//! Finds the place of a fault in a scenario.
 
 ghost use Rattle.std.specs.Prelude.{◌≡◌, ◌&&◌, IfOk, None, Ok, Some, find, is_some, option_map, true};
 ghost use Rattle.serde_json.specs.Find.{as_number, as_object};
@@ -22,53 +22,55 @@ use std::alloc::Global;
 /// A place where a scenario has a fault.
 #[derive(Debug, Drop, PartialEq, Eq)]
 pub enum Place {
-    /// The whole value, which is no object.
+    /// The whole value, which is not an object.
     NoObject,
     /// A field that no scenario of the kind has.
     Unknown {
         name: String,
     },
-    /// A field that is not there.
+    /// A field that is missing.
     Missing {
         field: Field,
     },
-    /// A field that is no whole number, or one past its limits.
+    /// A field that is not a whole number, or is past its limits.
     Number {
         field: Field,
     },
-    /// A field that is a number too great to be read as a whole one.
+    /// A field with a number that is too great to be read as a whole number.
     GreatNumber {
         field: Field,
     },
-    /// A field that is no list.
+    /// A field that is not a list.
     NoList {
         field: Field,
     },
-    /// An event, by its index from 0, the version in which it is judged, and its text, if it is one.
+    /// An event. `index` counts from 0, and `version` is the version that the event is judged by. `text` is the text of
+    /// the event, or `None` if it is not a string.
     Event {
         index: usize,
         version: u64,
         text: Option<String>,
     },
-    /// An item of the commands, from 0, that is no list.
+    /// An item of the commands that is not a list. `list` is its index, from 0.
     NoSublist {
         list: usize,
     },
-    /// A command, by its list and its index there, both from 0, and as an event is.
+    /// A command. `list` is the index of its list, and `index` is its index there, both from 0. `version` is the
+    /// version that the command is judged by. `text` is the text of the command, or `None` if it is not a string.
     Command {
         list: usize,
         index: usize,
         version: u64,
         text: Option<String>,
     },
-    /// The commands, which are so many lists, and not one for each of so many servers.
+    /// The commands, if they are `count` lists and not one list for each of the servers.
     Lists {
         count: usize,
         servers: u64,
     },
 }
 
-// The whole number that a field says, and what it is where it is missing.
+// Returns the whole number of a field, or its default if the field is missing.
 #[tactic(auto, unfolding(crate::specs::FieldsOf::field_number))]
 fn said_number(scenario: &Value, field: Field) -> Option<u64>
     ensures { result ≡ field_number field (view scenario.now) }
@@ -79,15 +81,15 @@ fn said_number(scenario: &Value, field: Field) -> Option<u64>
     }
 }
 
-// The version in which events and commands are judged: that of the scenario, and where it says none,
-// the newest.
+// Returns the version that events and commands are judged by. It is the version of the scenario, or the newest version
+// if the scenario has no whole number as its version.
 fn version_in(scenario: &Value) -> u64
     ensures { result ≡ version_in (view scenario.now) }
 {
     said_number(scenario, Field::Version).unwrap_or(NEWEST_VERSION)
 }
 
-// The place in an item of the commands.
+// Finds the place of the fault in an item of the commands.
 fn place_in_list(
     alloc: Global,
     version: u64,
@@ -115,7 +117,7 @@ fn place_in_list(
     }
 }
 
-// The place in the first of the lists of commands that has one.
+// Finds the first place of the fault in the lists of commands.
 fn first_in_lists(
     alloc: Global,
     version: u64,
@@ -134,7 +136,8 @@ fn first_in_lists(
     Ok(None)
 }
 
-// The commands as a place, where they are not one list for each server.
+// Returns the commands as the place of a `BadLimit` if they are not one list for each server. The number of servers
+// must be within its limits.
 fn lists_amiss(scenario: &Value, count: usize, fault: IoFault) -> Option<Place>
     ensures { option_map place_state result
         ≡ count_place fault count (field_number Servers (view scenario.now)) }
@@ -146,7 +149,7 @@ fn lists_amiss(scenario: &Value, count: usize, fault: IoFault) -> Option<Place>
     None
 }
 
-// The place in the commands of a run.
+// Finds the place of the fault in the commands of a run.
 fn place_in_commands(
     alloc: Global,
     scenario: &Value,
@@ -163,7 +166,7 @@ fn place_in_commands(
     Ok(lists_amiss(scenario, lists.len(), fault))
 }
 
-// The place in the events of a schedule.
+// Finds the place of the fault in the events of a schedule.
 fn place_in_events(
     alloc: Global,
     scenario: &Value,
@@ -184,7 +187,7 @@ fn place_in_events(
     }
 }
 
-// The place in the field that is a list.
+// Finds the place of the fault in the field that is a list.
 fn place_in_list_field(
     alloc: Global,
     kind: Kind,
@@ -210,8 +213,8 @@ fn place_in_list_field(
     }
 }
 
-// Whether a value is a number too great to be read as a whole one. The numbers between 2 to the 64th
-// and the float before it are read as that power.
+// Returns whether a value is a number too great to be read as a whole number. A fraction just below 2 to the 64th is
+// too great if it rounds to that power.
 fn is_great(value: &Value) -> bool
     ensures { result ≡ is_great_number (as_number (view value.now)) }
 {
@@ -224,7 +227,7 @@ fn is_great(value: &Value) -> bool
     }
 }
 
-// The place of a field that is no whole number.
+// Returns the place of a field that is not a whole number.
 fn not_whole(field: Field, value: &Value) -> Place
     ensures { place_state result ≡ not_whole field (view value.now) }
 {
@@ -235,7 +238,7 @@ fn not_whole(field: Field, value: &Value) -> Place
     }
 }
 
-// The place in a field that should be a whole number.
+// Finds the place of the fault in a field that should be a whole number.
 fn place_in_number(scenario: &Value, field: Field, fault: IoFault) -> Option<Place>
     ensures { option_map place_state result ≡ number_place fault field (view scenario.now) }
 {
@@ -256,7 +259,7 @@ fn place_in_number(scenario: &Value, field: Field, fault: IoFault) -> Option<Pla
     }
 }
 
-// The field of a kind that is a whole number and has this name.
+// Returns the field of a kind that is a whole number and has this name.
 fn field_named(kind: Kind, name: &str) -> Option<Field>
     ensures { result ≡ field_named kind name.now }
 {
@@ -268,8 +271,9 @@ fn field_named(kind: Kind, name: &str) -> Option<Field>
     None
 }
 
-// The place in the field of this name. The field that is a list is looked at once, however often it is
-// written: what is in it is handed over where its name comes first.
+// Finds the place of the fault in the field with this name. `in_list` is the place of the fault in the field that is a
+// list. It is returned when the name of that field first comes. So the list is examined only once, even if its field is
+// written several times.
 fn place_named(
     alloc: Global,
     kind: Kind,
@@ -298,7 +302,7 @@ fn place_named(
     }
 }
 
-// The place in the first field that has one, in the order of the text.
+// Finds the first place of the fault in the fields, in the order of the text.
 fn first_in_fields(
     alloc: Global,
     kind: Kind,
@@ -327,14 +331,14 @@ fn first_in_fields(
     Ok(None)
 }
 
-// Whether a field lacks that must be there.
+// Returns whether a field must be present, but is missing.
 fn is_lacking(scenario: &Value, field: Field) -> bool
     ensures { result ≡ is_lacking (view scenario.now) field }
 {
     field.default().is_none() && scenario.get(field.name()).is_none()
 }
 
-// The first field that is not there, of those that must be.
+// Returns the first field that must be present, but is missing.
 fn first_lack(kind: Kind, scenario: &Value) -> Option<Field>
     ensures { result ≡ find (is_lacking (view scenario.now)) (fields kind) }
 {
@@ -350,7 +354,7 @@ fn first_lack(kind: Kind, scenario: &Value) -> Option<Field>
     None
 }
 
-// The field that is not there, as a place.
+// Returns the first field that must be present, but is missing, as the place of a `BadShape`.
 fn lack_in(kind: Kind, scenario: &Value, fault: IoFault) -> Option<Place>
     ensures { option_map place_state result ≡ lack_place kind fault (view scenario.now) }
 {
@@ -361,7 +365,7 @@ fn lack_in(kind: Kind, scenario: &Value, fault: IoFault) -> Option<Place>
     Some(Place::Missing { field })
 }
 
-// The first place of the value that a text is.
+// Finds the first place of the fault in a text, which must be JSON. `scenario` is the value of the text.
 fn place_in(
     alloc: Global,
     kind: Kind,
@@ -386,13 +390,13 @@ fn place_in(
     Ok(lack_in(kind, scenario, fault))
 }
 
-/// The first place in a text that has the fault `BadShape` or `BadLimit`, as one scenario of the kind has
-/// it: in the order of the text, and a field that is not there comes last. There is none where no place
-/// of the text has the fault.
+/// Finds the first place in a text that has the fault `BadShape` or `BadLimit`. The text is read as a scenario of the
+/// kind. Places come in the order of the text, and a missing field comes last. Returns `None` if no place of the text
+/// has the fault.
 ///
 /// # Errors
 ///
-/// `NoMemory` where memory ran out.
+/// `NoMemory` if memory ran out.
 pub fn place_of(
     alloc: Global,
     kind: Kind,

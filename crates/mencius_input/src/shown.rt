@@ -1,4 +1,4 @@
-//! A text as words show it.
+//! Shows a text in the words of an explanation.
 
 ghost use Rattle.std.specs.Prelude.{◌≡◌, ◌<◌, ◌++◌, IfOk, OnOk, List, ℕ, flat_map, length, string_bytes, take};
 ghost use Rattle.std.specs.Str.{chars};
@@ -7,11 +7,11 @@ ghost use Rattle.mencius_input.specs.Shown.{is_hidden, most_shown, shown_char, s
 use mencius_base::NoMemory;
 use std::alloc::Global;
 
-// The longest text that is shown whole, in characters.
+// The greatest length of a text that is shown whole, in characters.
 const MOST_SHOWN: usize = 60;
 
-// Whether a character is never shown as it stands: a terminal may act on it, or show nothing, or
-// turn what follows around.
+// Returns whether a character must not be shown as it is. A terminal may act on such a character, show nothing for it,
+// or reverse the direction of the text after it.
 fn is_hidden(c: char) -> bool
     ensures { result ≡ is_hidden c }
 {
@@ -24,7 +24,7 @@ fn is_hidden(c: char) -> bool
         || code == 0xfeff
 }
 
-// Puts the number of a character behind the words.
+// Appends the number of a character to the words.
 fn push_number(words: &mut String, c: char) -> Result<(), NoMemory>
     ensures { OnOk result (string_bytes words.new ≡ string_bytes words.old ++ shown_number c) }
 {
@@ -33,7 +33,7 @@ fn push_number(words: &mut String, c: char) -> Result<(), NoMemory>
     Ok(())
 }
 
-// Puts a character behind the words, as it is shown.
+// Appends a character to the words as it is shown.
 #[tactic(auto, unfolding(crate::specs::Shown::shown_char))]
 fn push_shown(words: &mut String, c: char) -> Result<(), NoMemory>
     ensures { OnOk result (string_bytes words.new ≡ string_bytes words.old ++ shown_char c) }
@@ -53,7 +53,7 @@ fn push_shown(words: &mut String, c: char) -> Result<(), NoMemory>
     Ok(())
 }
 
-// Puts the front of a text behind the words, as it is shown.
+// Appends the front of a text, at most 60 characters, to the words as it is shown.
 fn push_front(words: &mut String, text: &str) -> Result<(), NoMemory>
     ensures { OnOk result (string_bytes words.new
         ≡ string_bytes words.old ++ flat_map shown_char (take most_shown (chars text.now))) }
@@ -64,16 +64,16 @@ fn push_front(words: &mut String, text: &str) -> Result<(), NoMemory>
     Ok(())
 }
 
-// How many characters a text has.
+// Counts the characters of a text.
 fn count_of_chars(text: &str) -> usize
     ensures { result ≡ length (chars text.now) }
 {
     text.chars().count()
 }
 
-/// A text in quotes: quotes and backslashes behind a backslash, and a character that is not to be
-/// seen, as a control character, by its number. Of a long one the first 60 characters are shown, and
-/// two dots.
+/// Returns a text in quotes. Quotes and backslashes get a backslash before them. A character that must not be shown,
+/// such as a control character, is replaced by its number. If the text has more than 60 characters, only the first 60
+/// are shown, and two dots follow.
 pub(crate) fn shown(alloc: Global, text: &str) -> Result<String, NoMemory>
     ensures { IfOk result (λ s. string_bytes s ≡ shown_text text.now) }
 {

@@ -1,4 +1,4 @@
-//! Which word of an event or a command is wrong, in a person's words. Each word is judged by what reads it.
+//! Says in words which word of an event or a command is wrong. Each word is judged by the function that reads it.
 
 use crate::kind::Kind;
 use crate::shown::shown;
@@ -10,7 +10,7 @@ use mencius_format::{
 use mencius_io::IoFault;
 use std::alloc::Global;
 
-// What the words behind the first one are, up to the operation of a command.
+// Returns the parts that follow the first word of an event, up to the operation of a command.
 fn parts_behind(first: &str) -> Option<&'static [Part]> {
     match first {
         "deliver" | "lose" => Some(&[Part::Message, Part::Server]),
@@ -21,7 +21,7 @@ fn parts_behind(first: &str) -> Option<&'static [Part]> {
     }
 }
 
-// The next of the words that are left.
+// Takes the next word from the text that is left.
 fn next_word<'a>(left: &mut Option<&'a str>) -> Option<&'a str> {
     let text = (*left)?;
     match cut_at_space(text) {
@@ -36,7 +36,7 @@ fn next_word<'a>(left: &mut Option<&'a str>) -> Option<&'a str> {
     }
 }
 
-// Whether a word is digits of which the first is a 0 too many.
+// Returns whether a word consists of two or more digits and begins with a 0.
 fn has_leading_zero(word: &str) -> bool {
     match word.as_bytes() {
         [b'0', rest @ ..] => !rest.is_empty() && rest.iter().all(|b| b.is_ascii_digit()),
@@ -44,7 +44,7 @@ fn has_leading_zero(word: &str) -> bool {
     }
 }
 
-// What is wrong with a number, by the fault that was found in it.
+// Describes the problem with a number. `found` is the fault of the number.
 fn wrong_number(
     alloc: Global,
     name: &str,
@@ -104,7 +104,8 @@ fn wrong_id(alloc: Global, word: &str, fault: IoFault) -> Result<Option<String>,
     wrong_u32(alloc, "the number of the command ID", number, fault)
 }
 
-// What is wrong with a key or a text, of which an operation is, as a command judges it.
+// Describes the problem with the key or the text of an operation, if it has the fault. A command judges the key or
+// text.
 fn wrong_op(alloc: Global, part: Part, op: Op, fault: IoFault) -> Result<Option<String>, NoMemory> {
     let id = CommandId {
         client: 0,
@@ -119,7 +120,8 @@ fn wrong_op(alloc: Global, part: Part, op: Op, fault: IoFault) -> Result<Option<
     Ok(Some(words_of_bad(alloc, part, bad)?))
 }
 
-// The words of a command for what it refuses; of two texts that an operation has they say which.
+// Returns the command's own words for a key or text that it refuses. If the operation has two texts, the words say
+// which text is refused.
 fn words_of_bad(alloc: Global, part: Part, bad: BadCommand) -> Result<String, NoMemory> {
     let words = format!(in alloc; "{bad}")?;
     match (part, words.as_str().strip_prefix("a text")) {
@@ -144,7 +146,7 @@ fn wrong_key(alloc: Global, word: &str, fault: IoFault) -> Result<Option<String>
     wrong_op(alloc, Part::Key, Op::Get { key }, fault)
 }
 
-// What is wrong with a word that is there, where it has the fault.
+// Describes the problem with a word that is present, if the word has the fault.
 fn wrong_word(
     alloc: Global,
     part: Part,
@@ -160,7 +162,7 @@ fn wrong_word(
     }
 }
 
-// What is said of a number or an operation of no byte.
+// Describes the problem with a number or an operation that is empty.
 fn empty(alloc: Global, name: &str, is_last: bool) -> Result<String, NoMemory> {
     if is_last {
         return Ok(format!(in alloc; "{name} is missing")?);
@@ -168,7 +170,7 @@ fn empty(alloc: Global, name: &str, is_last: bool) -> Result<String, NoMemory> {
     Ok(format!(in alloc; "there are two spaces before {name}")?)
 }
 
-// What is said of a word that is not there.
+// Describes the problem with a word that is missing.
 fn missing(alloc: Global, part: Part) -> Result<String, NoMemory> {
     let name = part.name();
     if let Part::Text | Part::NamedText(_) = part {
@@ -177,7 +179,7 @@ fn missing(alloc: Global, part: Part) -> Result<String, NoMemory> {
     Ok(format!(in alloc; "{name} is missing")?)
 }
 
-// The first of these words that has the fault.
+// Describes the problem with the first of these words that is missing or has the fault.
 fn wrong_words(
     alloc: Global,
     parts: &[Part],
@@ -198,7 +200,7 @@ fn wrong_words(
     Ok(None)
 }
 
-// The operation or the first of its words that has the fault.
+// Describes the problem with the operation, or with the first of its words that is missing or has the fault.
 fn wrong_operation(
     alloc: Global,
     left: &mut Option<&str>,
@@ -218,7 +220,7 @@ fn wrong_operation(
     wrong_words(alloc, operands, left, fault)
 }
 
-// What is said of a text that begins as no event does.
+// Describes the problem with a text that does not begin as an event does.
 fn unknown(alloc: Global, first: &str, is_whole: bool) -> Result<String, NoMemory> {
     if !first.is_empty() {
         let word = shown(alloc, first)?;
@@ -234,7 +236,7 @@ fn unknown(alloc: Global, first: &str, is_whole: bool) -> Result<String, NoMemor
     Ok(String::from_str(alloc, words)?)
 }
 
-// What is said of words that are left behind the last one.
+// Describes the problem with words that are left after the last word of a text.
 fn left_over(alloc: Global, left: &mut Option<&str>) -> Result<String, NoMemory> {
     match next_word(left) {
         Some("") => Ok(String::from_str(alloc, "there is a space too many")?),
@@ -246,7 +248,7 @@ fn left_over(alloc: Global, left: &mut Option<&str>) -> Result<String, NoMemory>
     }
 }
 
-// What is wrong with the text of an event.
+// Describes the problem with the text of an event.
 fn wrong_event(alloc: Global, text: &str, fault: IoFault) -> Result<String, NoMemory> {
     let mut left = Some(text);
     let first = next_word(&mut left).unwrap_or("");
@@ -264,7 +266,7 @@ fn wrong_event(alloc: Global, text: &str, fault: IoFault) -> Result<String, NoMe
     left_over(alloc, &mut left)
 }
 
-// What is wrong with the text of a command.
+// Describes the problem with the text of a command.
 fn wrong_command(alloc: Global, text: &str, fault: IoFault) -> Result<String, NoMemory> {
     let mut left = Some(text);
     if let Some(words) = wrong_words(alloc, &[Part::Id], &mut left, fault)? {
@@ -276,7 +278,7 @@ fn wrong_command(alloc: Global, text: &str, fault: IoFault) -> Result<String, No
     left_over(alloc, &mut left)
 }
 
-// The least version that a text needs, by the word of its operation alone.
+// Returns the lowest version that a text needs. Only the word of its operation decides this.
 fn version_of_text(kind: Kind, text: &str) -> u64 {
     match kind {
         Kind::Replay => event_version(text),
@@ -284,7 +286,7 @@ fn version_of_text(kind: Kind, text: &str) -> u64 {
     }
 }
 
-// The word that stands where that of the operation does.
+// Returns the word in the place of the operation.
 fn operation_in(kind: Kind, text: &str) -> &str {
     let mut left = Some(text);
     if matches!(kind, Kind::Replay) {
@@ -295,8 +297,8 @@ fn operation_in(kind: Kind, text: &str) -> &str {
     next_word(&mut left).unwrap_or("")
 }
 
-/// What is wrong with the text of an event, or in a run of a command, that has this fault in a version: the
-/// first of its words that has it.
+/// Describes the problem with the text of an event or, in a run, of a command. The text has this fault in the version.
+/// The result describes the first word of the text that has the fault.
 pub(crate) fn wrong_item(
     alloc: Global,
     kind: Kind,

@@ -2,7 +2,7 @@ use crate::fault::IoFault;
 use mencius_base::NoMemory;
 use std::alloc::AllocError;
 
-/// Why a task ended without doing its work: a fault, and the words that say where the input is wrong.
+/// The reason why a task ended without doing its work. It is a fault, and the words that say where the input is wrong.
 #[derive(Debug, Drop, PartialEq, Eq)]
 pub struct Failure {
     /// The fault.

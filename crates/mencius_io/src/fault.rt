@@ -6,7 +6,7 @@ use mencius_base::NoMemory;
 use std::alloc::{AllocError, AllocFailed};
 use thiserror::Error;
 
-/// What an input, a reader, a writer or memory lacked, so that a task ended without doing its work.
+/// The problem that kept a task from doing its work. It is a problem of the input, the reader, the writer or memory.
 #[derive(Clone, Copy, Debug, PartialEq, Eq, Error)]
 pub enum IoFault {
     #[error("the scenario is not JSON")]
@@ -24,7 +24,8 @@ pub enum IoFault {
 }
 
 impl IoFault {
-    /// The fault, where it is one of what was read or written: that memory ran out says nothing of either.
+    /// Returns the fault if it is a fault of the input, the reader or the writer. Fails with `NoMemory` if the fault is
+    /// that memory ran out, because this says nothing about any of them.
     pub fn memory_apart(self) -> Result<IoFault, NoMemory>
         ensures { MatchResult result (λ other. (other ≡ self) × (self ≢ fault.NoMemory))
             (λ _. self ≡ fault.NoMemory) }

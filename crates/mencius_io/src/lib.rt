@@ -1,5 +1,5 @@
-//! The two ends of a run: the faults that end it, readers and writers that count their failed calls, and
-//! reading all and writing all.
+//! Input and output of a task. This crate has the faults that end a task, readers and writers that count their failed
+//! calls, and functions that read or write everything.
 #![tactic(auto)]
 
 mod failure;

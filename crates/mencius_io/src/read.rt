@@ -8,29 +8,29 @@ use crate::retries::{MOST_RETRIES, spend_retry};
 use crate::source::Source;
 use std::alloc::Global;
 
-// The bytes of the longest scenario.
+// The greatest length of a scenario, in bytes.
 const MOST_BYTES: usize = 16_777_216;
 
-/// The bytes that one call asks for.
+/// The number of bytes that one call requests.
 pub const READ_BYTES: usize = 8_192;
 
-/// Reads some bytes into the front of `buf` and returns how many: none only at the end of the source,
-/// or if `buf` is empty. A call that was interrupted is made again while some of the `retries` are left,
-/// and spends one of them. Any other error is `ReadFailed`.
+/// Reads some bytes into the front of `buf` and returns their number. It returns 0 only at the end of the source, or if
+/// `buf` is empty. If a call is interrupted and some of the `retries` are left, it makes the call again and uses up one
+/// of them. Any other error is `ReadFailed`, and so is an interruption if no retry is left.
 pub fn read_some<R: Source>(
     source: &mut R,
     buf: &mut [u8],
     retries: &mut u32,
 ) -> Result<usize, IoFault>
-    // Which bytes came.
+    // The bytes that were read.
     ensures bound { ReadsAtMost result buf.new }
     ensures bytes { ReadConsumes (R.state source.old).bytes (R.state source.new).bytes result buf.new }
 
-    // Which fault, and when.
+    // The fault and its cause.
     ensures fault { IfErr result (λ f. f ≡ IoFault.ReadFailed) }
     ensures failed { OnErr result (HasFailed (R.state source.old).failures (R.state source.new).failures) }
 
-    // How many calls failed: each one spent a retry, but for the one that ended the reading.
+    // The number of failed calls. Each of them used up one retry, except the call that ended the reading.
     ensures counted { HasCounted (R.state source.old).failures (R.state source.new).failures }
     ensures retried { OnOk result
         ((R.state source.new).failures + retries.new ≤ (R.state source.old).failures + retries.old) }
@@ -48,16 +48,16 @@ pub fn read_some<R: Source>(
     }
 }
 
-/// All bytes of a source. Of a longer one than 16,777,216 bytes it reads one byte more, answers
-/// `BadLimit` and leaves the rest. A call that was interrupted is made again, up to 1,000 times in
-/// all; any other error is `ReadFailed`. `NoMemory` comes where there is no room for the bytes that
-/// were read, or for the 8,192 that one call asks for.
+/// Returns all bytes of a source. If the source is longer than 16,777,216 bytes, it reads one byte more than that,
+/// fails with `BadLimit` and leaves the rest. If a call is interrupted, it makes the call again, up to 1,000 times in
+/// total. Any other error is `ReadFailed`. It fails with `NoMemory` if there is no memory for the bytes that were read,
+/// or for the 8,192 bytes that one call requests.
 pub fn read_all<R: Source>(alloc: Global, source: &mut R) -> Result<Vec<u8>, IoFault>
     ensures whole { IfOk result (λ x. IfSome (R.state source.old).bytes (λ bytes. x.items ≡ bytes)) }
     ensures end { OnOk result (IsAtEnd (R.state source.new).bytes) }
     ensures fits { IfOk result (λ x. vec_len x ≤ most_bytes) }
 
-    // Which fault, and when.
+    // The fault and its cause.
     ensures too_long { IsErrOf result IoFault.BadLimit
         → IfSome (R.state source.old).bytes (λ bytes. most_bytes < length bytes) }
     ensures failed { IsErrOf result IoFault.ReadFailed
@@ -65,7 +65,7 @@ pub fn read_all<R: Source>(alloc: Global, source: &mut R) -> Result<Vec<u8>, IoF
     ensures faults { IfErr result (λ f. (f ≡ IoFault.BadLimit) ⊎ (f ≡ IoFault.ReadFailed)
         ⊎ (f ≡ IoFault.NoMemory)) }
 
-    // How much was asked of the source, whatever the answer.
+    // The use of the source is limited, even if reading fails.
     ensures taken { TakesAtMost (most_bytes + 1) (R.state source.old).bytes (R.state source.new).bytes }
     ensures tried { (R.state source.new).failures ≤ (R.state source.old).failures + most_failed_calls }
 {

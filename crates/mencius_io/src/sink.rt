@@ -7,20 +7,19 @@ use crate::source::Std;
 use std::io;
 use std::io::Write;
 
-/// Where a text is written to.
+/// A stream of bytes that a text is written to.
 pub trait Sink {
-    // The bytes that were written so far, if they are known, and how many calls have failed.
+    // The bytes that were written so far, if they are known, and the number of failed calls.
     ghost state: { Self → StreamState };
 
-    /// Writes some bytes from the front of `buf` and answers how many, as the `write` of
-    /// `std::io::Write` does.
+    /// Writes some bytes from the front of `buf` and returns their number, as `write` of `std::io::Write` does.
     fn write(&mut self, buf: &[u8]) -> io::Result<usize>
         ensures bound { WritesAtMost result buf.now }
         ensures bytes { WriteAppends (state self.old).bytes (state self.new).bytes result buf.now }
         ensures count { CountsWrite (state self.old).failures (state self.new).failures result buf.now };
 
-    /// How many calls of `write` were answered by an error, or took none of at least one byte. At
-    /// the greatest `u64` the count stays.
+    /// Returns the number of calls of `write` that failed. A call fails if it returns an error, or if it takes none of
+    /// at least one byte. The count stays at the greatest `u64`.
     fn failures(&self) -> u64
         ensures { result ≡ (state self.now).failures };
 }

@@ -7,24 +7,24 @@ use std::io;
 use std::io::Read;
 use std::marker::Model;
 
-/// Where a scenario is read from.
+/// A stream of bytes that an input is read from.
 pub trait Source {
-    // The bytes that are still to be read, if they are known, and how many calls have failed.
+    // The bytes that are still to be read, if they are known, and the number of failed calls.
     ghost state: { Self → StreamState };
 
-    /// Reads some bytes into the front of `buf` and answers how many, as the `read` of
-    /// `std::io::Read` does: none only at the end, or where `buf` is empty.
+    /// Reads some bytes into the front of `buf` and returns their number, as `read` of `std::io::Read` does. It returns
+    /// 0 only at the end of the source, or if `buf` is empty.
     fn read(&mut self, buf: &mut [u8]) -> io::Result<usize>
         ensures bound { ReadsAtMost result buf.new }
         ensures bytes { ReadConsumes (state self.old).bytes (state self.new).bytes result buf.new }
         ensures count { CountsRead (state self.old).failures (state self.new).failures result };
 
-    /// How many calls of `read` were answered by an error. At the greatest `u64` the count stays.
+    /// Returns the number of calls of `read` that returned an error. The count stays at the greatest `u64`.
     fn failures(&self) -> u64
         ensures { result ≡ (state self.now).failures };
 }
 
-/// A reader or a writer of std's, with a count of its failures: a [`Source`] over any reader, and a
+/// A reader or a writer of `std`, with a count of its failures. It is a [`Source`] over any reader, and a
 /// [`Sink`](crate::Sink) over any writer.
 #[derive(Drop)]
 pub struct Std<T> {
@@ -41,7 +41,7 @@ impl<T> Model for Std<T> {
 }
 
 impl<T> Std<T> {
-    /// A reader or a writer that has not failed yet.
+    /// Makes a reader or a writer that has not failed yet.
     pub fn new(inner: T) -> Std<T>
         ensures inner { result.inner ≡ inner }
         ensures none { result.failures ≡ 0 }

@@ -6,9 +6,9 @@ use crate::fault::IoFault;
 use crate::retries::{MOST_RETRIES, spend_retry};
 use crate::sink::Sink;
 
-/// Writes the whole text, or answers `WriteFailed`, and then a front of the text was written. A
-/// call that was interrupted is made again, up to 1,000 times in all; any other error ends the
-/// writing, and so does a call that took no byte.
+/// Writes the whole text, or fails with `WriteFailed` after it has written a prefix of the text. If a call is
+/// interrupted, it makes the call again, up to 1,000 times in total. Any other error ends the writing, and so does a
+/// call that takes no byte.
 pub fn write_all<W: Sink>(sink: &mut W, text: &[u8]) -> Result<(), IoFault>
     ensures whole { OnOk result (Appends (W.state sink.old).bytes (W.state sink.new).bytes text.now) }
     ensures front { WritesFront (W.state sink.old).bytes (W.state sink.new).bytes text.now }

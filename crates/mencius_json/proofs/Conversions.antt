@@ -1,4 +1,4 @@
--- What is parsed is converted: a step put on what is parsed, and the same step put on what comes of it.
+-- Converting a whole list or object gives the same result as converting each of its parts.
 use Rattle.std.proofs.Common.{◌≡◌, ℕ, zero, suc, ◌-◌, ◌<◌, ◌≤◌, List, length, Option, Some, None, option_map, option_and_then, refl, ap, ◌∙◌}
 use Rattle.json.specs.Token.{Token}
 use Rattle.json.specs.Json as json
@@ -16,32 +16,32 @@ behind step rest None = refl
 behind step rest (Some found) = refl
 
 module _ {A B C : Type 0} where
-  -- a step before it
+  -- a step before a conversion is the first part of the conversion
   converted_step : (f : B → Option C) (step : A → B) (parsed : Option (A × List Token))
       → converted f (parse_map step parsed) ≡ converted (λ a. f (step a)) parsed
   converted_step f step None = refl
   converted_step f step (Some pair) = refl
 
-  -- a step after it
+  -- a step at the end of a conversion can be applied to the converted value
   step_converted : (f : A → Option B) (step : B → C) (parsed : Option (A × List Token))
       → converted (λ a. option_map step (f a)) parsed ≡ parse_map step (converted f parsed)
   step_converted f step None = refl
   step_converted f step (Some pair) = behind step pair.1 (f pair.0)
 
 module _ {A B : Type 0} where
-  -- another conversion that makes the same
+  -- conversions that agree on all values convert a parsed value to the same result
   same_conversion : (f g : A → Option B) → ((a : A) → f a ≡ g a) → (parsed : Option (A × List Token))
       → converted f parsed ≡ converted g parsed
   same_conversion f g same None = refl
   same_conversion f g same (Some d) = ap (option_map (λ x. (x, d.1))) (same d.0)
 
-  -- one that makes nothing
+  -- a conversion that fails for all values fails for a parsed value
   no_conversion : (f : A → Option B) → ((a : A) → f a ≡ None) → (parsed : Option (A × List Token))
       → converted f parsed ≡ None
   no_conversion f none None = refl
   no_conversion f none (Some d) = ap (option_map (λ x. (x, d.1))) (none d.0)
 
-  -- what was converted to a value: it was parsed, and this became of it
+  -- the parsed value is `from`, with the tokens `rest` after it, and `f` converts it to `x`
   record IsMade (f : A → Option B) (parsed : Option (A × List Token)) (x : B) (rest : List Token) : Type 0 where
     from : A
     there : parsed ≡ Some (from, rest)
@@ -60,7 +60,7 @@ module _ {A B : Type 0} where
       at z None e = absurd (cc)
       at z (Some whole) e = (ap (option_map (λ y. y.0)) e, ap (option_map (λ y. (z.0, y.1))) e)
 
-  -- what was parsed and could not be converted
+  -- if a parsed value is not converted, `f` gives no value for it
   unmade : (f : A → Option B) (d : A × List Token) → converted f (Some d) ≡ None → f d.0 ≡ None
   unmade f d e = bare (f d.0) e
     where
@@ -80,7 +80,7 @@ pub object_converted : (parsed : Option (json.Members × List Token))
 object_converted parsed =
     converted_step of_json json.object parsed ∙ step_converted (λ ms. of_members ms no_members) object parsed
 
--- where a part can't be converted, nothing that it is put before can
+-- if a part cannot be converted, no whole that begins with this part can be converted
 stopped : {X Y : Type 0} (put_before : json.Json → X → X) (f : X → Option Y)
     → ((y : json.Json) → of_json y ≡ None → (x : X) → f (put_before y x) ≡ None)
     → (more : Parse X) (part : Option (json.Json × List Token)) → converted of_json part ≡ None
@@ -91,7 +91,7 @@ stopped put_before f none more (Some made) e =
     ∙ no_conversion (λ x. f (put_before made.0 x)) (none made.0 (unmade of_json made e)) (more made.1)
 
 module _ (value : Parse json.Json) (turns : ℕ) where
-  -- one item more
+  -- the next item is converted, and then the items after it
   pub next_item : (left rest : List Token) (d : Data) → 0 < turns → after_end_array left ≡ None
       → converted of_json (value left) ≡ Some (d, rest)
       → converted of_items (items value turns left)
@@ -105,7 +105,7 @@ module _ (value : Parse json.Json) (turns : ℕ) where
       (λ js. rw made.becomes) others
       ∙ step_converted of_items (item d) others
 
-  -- the last one is behind
+  -- after the last item, no item is converted
   pub no_item : (left rest : List Token) → length left ≤ turns → after_end_array left ≡ Some rest
       → converted of_items (items value turns left) ≡ Some (no_items, rest)
   no_item left rest enough closed = ap (converted of_items) (items_end value turns left rest enough closed)
@@ -114,7 +114,7 @@ module _ (value : Parse json.Json) (turns : ℕ) where
     abbrev of_found : json.Members → Option Members
     of_found ms = of_members ms found
 
-    -- one field more
+    -- the next field is converted and put into the fields found, and then the fields after it are read
     pub next_member : (name : List ℕ) (left behind rest : List Token) (d : Data) → 0 < turns
         → read_key left ≡ Some (Some name, behind) → converted of_json (value behind) ≡ Some (d, rest)
         → converted (λ ms. of_members ms found) (members value turns left)
@@ -127,7 +127,7 @@ module _ (value : Parse json.Json) (turns : ℕ) where
         ∙ same_conversion (λ ms. of_found (json.member name made.from ms)) (λ ms. of_members ms (put name d found))
         (λ ms. rw made.becomes) others
 
-    -- neither a name nor the end
+    -- an object is not converted if neither a name nor its end comes next
     pub no_name : (left : List Token) → read_key left ≡ None
         → converted (λ ms. of_members ms found) (members value turns left) ≡ None
     no_name left e = ap (converted of_found) (members_no_key value turns left e)
@@ -137,7 +137,7 @@ module _ (value : Parse json.Json) (turns : ℕ) where
     no_member left rest enough closed =
         ap (converted of_found) (members_end value turns left rest enough closed)
 
--- an item, or the value of a field, that can't be read
+-- a list is not converted if its next item cannot be converted
 pub bad_item : (value : Parse json.Json) (turns : ℕ) (left : List Token) → after_end_array left ≡ None
     → converted of_json (value left) ≡ None → converted of_items (items value turns left) ≡ None
 unfolding items
@@ -146,6 +146,7 @@ bad_item value (suc n) left going e =
     ap (λ end. converted of_items (items_step value (items value n) left end)) going
     ∙ stopped json.item of_items (λ left_over none js. rw none) (items value n) (value left) e
 
+-- an object is not converted if the value of its next field cannot be converted
 pub bad_member : (value : Parse json.Json) (found : Members) (turns : ℕ) (name : List ℕ) (left behind : List Token)
     → read_key left ≡ Some (Some name, behind) → converted of_json (value behind) ≡ None
     → converted (λ ms. of_members ms found) (members value turns left) ≡ None

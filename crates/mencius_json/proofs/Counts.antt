@@ -1,4 +1,4 @@
--- Counts of the elements that pass a test.
+-- A count of elements that pass a test can be made one element at a time, and never exceeds the number of elements.
 use Rattle.std.proofs.Common.{◌≡◌, ◌∙◌, ◌||◌, ◌==◌, ℕ, ◌+◌, ◌≤◌, ◌<◌, Bool, true, false, List, [], ◌∷◌, ap, arith, cond, get_or, length, refl, sym, take}
 use Rattle.std.proofs.lemmas.List.Filters.{length-filter_more}
 use Rattle.std.proofs.lemmas.List.Sums.{count_by-le-length, length-filter}
@@ -13,7 +13,7 @@ at_most_one : (b : Bool) → bool_byte b ≤ 1
 at_most_one true = omega arith
 at_most_one false = omega arith
 
--- the next element counts if it passes
+-- the next element raises the count by 1 if it passes, and by 0 otherwise
 pub one_more : (test : ℕ → Bool) (xs : List ℕ) (n count : ℕ) → n < length xs → count ≡ length (filter test (take n xs))
     → count + bool_byte (test (get_or xs n 0)) ≡ length (filter test (take (n + 1) xs))
 one_more test xs n count less so_far =
@@ -21,22 +21,22 @@ one_more test xs n count less so_far =
     ap (λ k. k + this) so_far
     ∙ sym (length-filter_more test xs n 0 less ∙ ap (λ k. length (filter test (take n xs)) + k) (said (test (get_or xs n 0))))
 
--- a count rises by one at most
+-- the next element raises a count by at most 1
 pub next_within : (count n : ℕ) (b : Bool) → count ≤ n → count + bool_byte b ≤ n + 1
 next_within count n b within = omega (arith, within, at_most_one b)
 
--- no more pass than there are
+-- the number of elements that pass is at most the number of elements
 pub within_all : (test : ℕ → Bool) (xs : List ℕ) → length (filter test xs) ≤ length xs
 within_all test xs = rw (length-filter test xs) (count_by-le-length test xs)
 
--- commas and colons together
+-- the number of commas and colons is the number of commas plus the number of colons
 pub of_either : (xs : List ℕ)
     → length (filter (λ byte. (byte == 44) || (byte == 58)) xs)
     ≡ length (filter (λ byte. byte == 44) xs) + length (filter (λ byte. byte == 58) xs)
 of_either [] = refl
 of_either (x ∷ xs) = let e = of_either xs in grind (arith, e)
 
--- their sum is no more than there are
+-- the number of commas plus the number of colons is at most the number of bytes
 pub either_within : (xs : List ℕ) (commas colons : ℕ) → commas ≡ length (filter (λ byte. byte == 44) xs)
     → colons ≡ length (filter (λ byte. byte == 58) xs) → commas + colons ≤ length xs
 either_within xs commas colons first second =

@@ -1,4 +1,4 @@
--- What the first token of a value tells of it.
+-- The first token of a value determines its kind.
 use Rattle.std.proofs.Common.{◌≡◌, ℕ, zero, suc, arith, ◌<◌, ◌-◌, List, ◌∷◌, Bool, true, false, Option, Some, None, option_and_then, option_map, refl, sym, ap, ◌∙◌}
 use Rattle.std.specs.Prelude.{unwrap_or}
 use Rattle.json.specs.Token.{Token}
@@ -10,7 +10,7 @@ use Rattle.serde_json.specs.Read.{converted, number_of, of_json}
 use Rattle.mencius_json.specs.Next.{EntersObject, next_items, next_members, next_value, number_text, is_begin_array, is_begin_object, text_of}
 use Rattle.mencius_json.proofs.NextValues.{array_too_deep, object_too_deep, next_counted, next_number, next_string, next_uncounted, opened_array, opened_object, paired_with}
 
--- the value that begins with the token
+-- the value is of the kind that the token begins
 abbrev pub Begins : Token → Data → Type 0
 Begins Token.begin_object d = (ms : Members) × (d ≡ object ms)
 Begins Token.begin_array d = (ds : Items) × (d ≡ array ds)
@@ -104,7 +104,7 @@ no_object d (Token.boolean truth) h e = ap as_object h
 no_object d Token.null h e = ap as_object h
 no_object d x h e = absurd h
 
--- which token it was
+-- a token that has this text is a string token
 pub was_text : (x : Token) (s : List ℕ) → Some s ≡ text_of x → x ≡ Token.string s
 was_text (Token.string text) s e = ap (λ o. Token.string (unwrap_or o s)) (sym e)
 was_text x s e = absurd (cc)
@@ -121,7 +121,7 @@ pub was_object : (x : Token) → is_begin_object x ≡ true → x ≡ Token.begi
 was_object Token.begin_object e = refl
 was_object x e = absurd (cc)
 
--- ---- a value is read by its first token
+-- ---- the next value, by its first token
 
 module _ (depth : ℕ) (x : Token) (ts old : List Token) (is : old ≡ x ∷ ts) where
   pub text_first : (s : List ℕ) → Some s ≡ text_of x → next_value depth old ≡ Some (string s, ts)
@@ -140,7 +140,7 @@ module _ (depth : ℕ) (x : Token) (ts old : List Token) (is : old ≡ x ∷ ts)
   no_whole_first s e same =
       ap (next_value depth) (is ∙ ap (λ token. token ∷ ts) (was_number x s e)) ∙ next_uncounted depth s ts same
 
-  -- what was passed is no such value
+  -- a value that was passed is not of a kind that its first token excludes
   module _ (d : Data) (r : List Token) (next : next_value depth (x ∷ ts) ≡ Some (d, r)) where
     pub passed_first : next_value depth old ≡ Some (d, r)
     passed_first = ap (next_value depth) is ∙ next
@@ -167,12 +167,13 @@ module _ (depth : ℕ) (x : Token) (ts old : List Token) (is : old ≡ x ∷ ts)
   object_first some e =
       ap (next_value depth) (is ∙ ap (λ token. token ∷ ts) (was_object x e)) ∙ opened_object depth ts some
 
--- an object that was entered, or another value that was passed
+-- after an object was entered, reading its fields completes the value
 pub entered : (depth : ℕ) (old new : List Token) (is_object : Bool) → EntersObject depth old new is_object
     → is_object ≡ true → next_value depth old ≡ parse_map object (next_members (depth - 1) new)
 entered depth old new true h e = h
 entered depth old new false h e = absurd (cc)
 
+-- if no object was entered, the value that was passed is not an object
 pub not_entered : (depth : ℕ) (old new : List Token) (is_object : Bool) → EntersObject depth old new is_object
     → is_object ≡ false → (d : Data) × (next_value depth old ≡ Some (d, new)) × (as_object d ≡ None)
 not_entered depth old new true h e = absurd (cc)

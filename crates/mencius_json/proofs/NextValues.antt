@@ -1,4 +1,4 @@
--- Reading the next value, a token at a time.
+-- Reading tokens one at a time gives the next value of the model.
 use Rattle.std.proofs.Common.{◌≡◌, ℕ, ◌-◌, ◌<◌, ◌≤◌, List, [], ◌∷◌, ◌++◌, length, Result, Ok, Err, OnOk, IfErr, inl, inr, Option, Some, None, option_map, refl, ap, ◌∙◌, arith}
 use Rattle.std.proofs.lemmas.Result.{IfErr-weaker}
 use Rattle.std.specs.Borrow.{Bor}
@@ -15,13 +15,13 @@ use Rattle.serde_json.specs.Read.{converted, number_of, of_items, of_json, of_me
 use Rattle.mencius_json.proofs.Conversions.{array_converted, bad_item, bad_member, next_item, next_member, no_item, no_member, no_name, object_converted}
 use Rattle.mencius_json.specs.Next.{next_items, next_members, next_value}
 
--- ---- where reading stops
+-- ---- the end of a read
 
 pub err_anyway : {X E P : Type 0} (result : Result X E) → P → IfErr result (λ _. P)
 err_anyway (Ok x) p = tt
 err_anyway (Err e) p = p
 
--- what stops a part stops the whole
+-- if reading a part fails, reading the whole fails
 pub errs_whole : {X Y Z E : Type 0} (result : Result X E) (part : Option Y) (whole : Option Z)
     → (part ≡ None → whole ≡ None) → IfErr result (λ _. part ≡ None) → IfErr result (λ _. whole ≡ None)
 errs_whole result part whole none h = IfErr-weaker result (λ _. part ≡ None) (λ _. whole ≡ None) (λ _. none) h
@@ -32,7 +32,7 @@ pub oks_whole : {R X Y E : Type 0} (result : Result R E) (make : X → Y) (part 
 oks_whole (Ok x) make part whole rest is h = (make h.0, is ∙ ap (parse_map make) h.1)
 oks_whole (Err f) make part whole rest is h = tt
 
--- ---- items that were read, and then the rest
+-- ---- the items of a list, read one at a time
 
 abbrev pub items_then : List Data → Items → Items
 items_then [] rest = rest
@@ -51,7 +51,7 @@ nothing_yet : (r : Option (Items × List Token)) → r ≡ parse_map (items_then
 nothing_yet None = refl
 nothing_yet (Some pair) = refl
 
--- of the items behind a bracket these were read, and then come those of `left`
+-- the items of `whole` are those in `read`, followed by the items that `left` begins with
 pub record ItemsSoFar (depth : ℕ) (whole left : List Token) (read : List Data) : Type 0 where
   pub turns : ℕ
   pub enough : length left ≤ turns
@@ -90,8 +90,9 @@ items_start depth whole = record {
   within = omega arith;
 }
 
--- ---- fields that were read, and then the rest
+-- ---- the fields of an object, read one at a time
 
+-- the fields of `whole` are those in `found`, together with the fields that `left` begins with
 pub record MembersSoFar (depth : ℕ) (whole left : List Token) (found : Members) : Type 0 where
   pub turns : ℕ
   pub enough : length left ≤ turns
@@ -132,9 +133,9 @@ members_start depth whole = record {
   within = omega arith;
 }
 
--- ---- a value by its first token
+-- ---- a value with a given first token
 
--- what is paired with the tokens behind it
+-- a value, if there is one, together with the tokens after it
 abbrev pub paired_with : {A : Type 0} → List Token → Option A → Option (A × List Token)
 paired_with ts None = None
 paired_with ts (Some a) = Some (a, ts)
@@ -180,7 +181,7 @@ module _ (depth : ℕ) (s : List ℕ) (ts : List Token) where
   counted whole None e same = absurd (cc)
   counted whole (Some n) e same = (n, first (Some n) e, ap (λ o. unwrap_or o whole) same)
 
-  -- a number that is not too large
+  -- a number that is not too large is a value
   pub next_counted : (whole : Option ℕ) → Some whole ≡ option_map as_u64 (number_of s)
       → (n : Num) × (next_value depth (Token.number s ∷ ts) ≡ Some (number n, ts)) × (whole ≡ as_u64 n)
   next_counted whole same = counted whole (number_of s) refl same
@@ -193,7 +194,7 @@ module _ (depth : ℕ) (s : List ℕ) (ts : List Token) where
   pub next_uncounted : None ≡ option_map as_u64 (number_of s) → next_value depth (Token.number s ∷ ts) ≡ None
   next_uncounted same = uncounted (number_of s) refl same
 
--- ---- the same, of the token as the code has it
+-- ---- a value whose first token is given as the code stores it
 
 pub next_plain : (depth : ℕ) (symbol : code.Token) (ts : List Token)
     → ((x : Bor (List ℕ)) × (symbol ≡ String x)) ⊎ ((x : Bool) × (symbol ≡ BoolT x)) ⊎ (symbol ≡ Null)

@@ -1,4 +1,5 @@
--- What is told of a token by the kind that it is not.
+-- A token that does not begin a list in the code does not begin a list in the model. The same is true of tokens that do
+-- not begin an object, and of tokens that are not a number.
 use Rattle.std.specs.Borrow.{Bor}
 use Rattle.std.proofs.Common.{◌≡◌, ℕ, List, false, Option, None, refl}
 use Rattle.json.specs.Reads.{token_of}

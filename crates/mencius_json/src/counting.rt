@@ -1,12 +1,13 @@
-//! How often a byte stands in a text.
+//! Counts how often a byte occurs in a text.
 
 ghost use Rattle.std.specs.Prelude.{◌≡◌, ◌==◌, ◌≤◌, length};
 ghost use Rattle.std.specs.List.{filter};
 
-// The most bytes of a part. A byte can count them, so that a part is counted many bytes at once.
+// The greatest length of a part, in bytes. A count up to this length fits in a `u8`, which lets the loop count many
+// bytes at once.
 const PART: usize = 192;
 
-// How often a byte stands in a part of a text.
+// Counts a byte in a part of a text.
 fn count_in_part(part: &[u8], wanted: u8) -> u8
     requires { length part.now ≤ 192 }
     ensures value { result ≡ length (filter (λ byte. byte == wanted) part.now) }
@@ -19,7 +20,7 @@ fn count_in_part(part: &[u8], wanted: u8) -> u8
     count
 }
 
-/// How often a byte stands in a text.
+/// Counts how often a byte occurs in a text.
 pub(crate) fn count_of(bytes: &[u8], wanted: u8) -> usize
     ensures { result ≡ length (filter (λ byte. byte == wanted) bytes.now) }
 {

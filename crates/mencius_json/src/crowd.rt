@@ -1,4 +1,4 @@
-//! Texts of which no tree is made.
+//! Finds the texts that have too many signs for a tree.
 
 ghost use Rattle.std.specs.Prelude.{◌≡◌, ◌==◌, ◌||◌, length};
 ghost use Rattle.std.specs.List.{filter};
@@ -6,41 +6,42 @@ ghost use Rattle.mencius_json.specs.Crowds.{braces_in, brackets_in, crowd_in, se
 
 use crate::counting::count_of;
 
-/// A sign that stands so often in a text that no tree is made of it.
+/// A sign that is so frequent in a text that we build no tree from it. The reason is the memory that the tree would
+/// use.
 #[derive(Clone, Copy, Debug, PartialEq, Eq)]
 pub enum Crowd {
     /// The `{` of an object.
     Braces,
     /// The `[` of a list.
     Brackets,
-    /// The commas between items and fields, and the colons behind names.
+    /// The commas between items and fields, and the colons after names.
     Separators,
 }
 
-// How often each sign may stand in a text of which a tree is made. A tree takes some 900 bytes for an object
-// of one field and 160 for each further one, 180 for a list of one item, and 70 for a short text: of 16 MiB
-// less than 250 MiB, with the text itself.
+// The greatest number of each sign in a text that we build a tree from. A tree takes about 900 bytes for an object with
+// one field, and 160 for each further field. It takes 180 bytes for a list with one item, and 70 for a short text.
+// Within these limits, a text of 16 MiB and its tree together take less than 250 MiB.
 const MOST_BRACES: usize = 65_536;
 
 const MOST_BRACKETS: usize = 65_536;
 
 const MOST_SEPARATORS: usize = 1_700_000;
 
-// How many objects may begin in a text.
+// Counts the `{` in a text. At most this number of objects begin in it.
 fn braces_in(bytes: &[u8]) -> usize
     ensures { result ≡ braces_in bytes.now }
 {
     count_of(bytes, b'{')
 }
 
-// How many lists may begin in a text.
+// Counts the `[` in a text. At most this number of lists begin in it.
 fn brackets_in(bytes: &[u8]) -> usize
     ensures { result ≡ brackets_in bytes.now }
 {
     count_of(bytes, b'[')
 }
 
-// How many items and fields may be followed by another one in a text, and how many names by a value.
+// Counts the commas and colons in a text. A comma may separate items or fields, and a colon may follow a name.
 #[tactic(auto, using(crate::proofs::Counts::of_either, crate::proofs::Counts::either_within))]
 fn separators_in(bytes: &[u8]) -> usize
     ensures { result ≡ separators_in bytes.now }
@@ -48,7 +49,7 @@ fn separators_in(bytes: &[u8]) -> usize
     count_of(bytes, b',') + count_of(bytes, b':')
 }
 
-/// The first sign that stands more often in a text than in any of which a tree is made, if one does.
+/// Returns the first of the three signs that a text has too often for a tree, or `None` if no sign is too frequent.
 pub fn crowd_in(bytes: &[u8]) -> Option<Crowd>
     ensures { result ≡ crowd_in bytes.now }
 {

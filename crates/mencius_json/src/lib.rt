@@ -1,11 +1,12 @@
-//! The values of a JSON text, by its tokens.
+//! Reads the values of a JSON text from its tokens.
 //!
-//! `json` hands out one token after the other. `value` reads the next value from them and makes no tree
-//! of it: a number or a text, a list or an object that is entered, or any value that is passed. What
-//! comes of that is what `serde_json` finds in the tree, which `tree` makes, or `Invalid` where the text is
-//! no JSON. Where such a text stops being JSON, `stops` says in a person's words. `crowd` says of which
-//! texts a tree would be too large, by the bytes that `counting` counts. What a text is about is for the
-//! crates above.
+//! `json` returns one token after another. `value` reads the next value from these tokens and builds no tree. It reads
+//! a number or a text, enters a list or an object, or passes any value. The result is the same as in the tree of
+//! `serde_json`, which `tree` builds. If the text is not JSON, the result is `Invalid`. `stops` then says in words
+//! where the text stops being JSON.
+//!
+//! `crowd` finds the texts that would need too large a tree. It counts their bytes with `counting`. The crates above
+//! interpret the text.
 #![tactic(auto)]
 
 mod counting;

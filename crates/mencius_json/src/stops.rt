@@ -1,4 +1,4 @@
-//! Where a text stops being JSON.
+//! Says where a text stops being JSON.
 
 ghost use Rattle.std.specs.Prelude.{◌≡◌, ◌≤◌, ◌<◌, ◌-◌, ◌==◌, IfOk, drop, get_or, length, string_bytes};
 ghost use Rattle.std.specs.List.{filter};
@@ -24,7 +24,7 @@ const NO_NAME: &str = "a name in double quotes has to stand here";
 
 const GOES_ON: &str = "the text goes on behind its value";
 
-// Where the last line of a text begins that has so many line feeds.
+// Returns the offset of the last line of `front`. `feeds` is the number of line feeds in `front`.
 fn last_line_start(front: &[u8], feeds: usize) -> usize
     requires { feeds ≡ length (filter (λ byte. byte == 10) front.now) }
     ensures within { result ≤ length front.now }
@@ -41,14 +41,14 @@ fn last_line_start(front: &[u8], feeds: usize) -> usize
     start
 }
 
-// How many characters begin in some bytes.
+// Counts the characters that begin in some bytes.
 fn characters_in(bytes: &[u8]) -> usize
     ensures { result ≡ characters_in bytes.now }
 {
     bytes.iter().filter(|byte| **byte & 0xc0 != 0x80).count()
 }
 
-// The line and the column of what stands behind the front of a text, in characters and both from 1.
+// Returns the line and the column after the text `front`. Both count from 1, and a column counts characters.
 fn line_and_column(front: &[u8]) -> (usize, usize)
     ensures { result ≡ place_behind front.now }
 {
@@ -57,7 +57,7 @@ fn line_and_column(front: &[u8]) -> (usize, usize)
     (1 + feeds, 1 + characters_in(last_line))
 }
 
-// How far the text was read when it turned out to be no JSON.
+// Returns the offset where reading stops in a text that is not JSON.
 fn read_to(alloc: Global, text: &str) -> Result<usize, NoMemory> {
     let mut scratch = Scratch::new(alloc);
     let mut reader = Reader::new(text, &mut scratch)?;
@@ -65,7 +65,8 @@ fn read_to(alloc: Global, text: &str) -> Result<usize, NoMemory> {
     Ok(reader.offset())
 }
 
-// Where bytes are the front of a value, whether they are all of one.
+// Returns `Some(true)` if the bytes are a whole value, and `Some(false)` if they are only the front of one. Returns
+// `None` if they are neither.
 fn front_of(alloc: Global, bytes: &[u8]) -> Result<Option<bool>, NoMemory> {
     match memory_apart(Value::from_slice(alloc, bytes))? {
         Ok(_) => Ok(Some(true)),
@@ -74,7 +75,8 @@ fn front_of(alloc: Global, bytes: &[u8]) -> Result<Option<bool>, NoMemory> {
     }
 }
 
-// Opens or closes the bracket that a token is, in the brackets that are open, from the outermost on.
+// Adds a token's bracket to the open brackets if the token opens one, and removes the last bracket if it closes one.
+// `open` begins with the outermost bracket.
 fn pass_bracket(open: &mut Vec<u8>, token: Token<'_>) -> Result<(), NoMemory> {
     match token {
         Token::BeginArray => open.push(b'[')?,
@@ -87,7 +89,8 @@ fn pass_bracket(open: &mut Vec<u8>, token: Token<'_>) -> Result<(), NoMemory> {
     Ok(())
 }
 
-// What is wrong with a token at which reading stopped, where these brackets are open; behind a name it is its value.
+// Describes the problem with a token if reading stops at it. `open` contains the brackets that are open before the
+// token. If `is_behind_name` is true, the token comes directly after a name.
 fn wrong_token(token: Token<'_>, open: &[u8], is_behind_name: bool) -> &'static str {
     match (token, open) {
         (Token::Number(text), _) if whole_number(text).is_none() => "the number is too great",
@@ -107,39 +110,39 @@ fn wrong_token(token: Token<'_>, open: &[u8], is_behind_name: bool) -> &'static 
     }
 }
 
-// Whether a byte is a blank.
+// Returns whether a byte is a blank.
 fn is_blank(byte: u8) -> bool
     ensures { result ≡ is_space byte }
 {
     matches!(byte, b' ' | b'\t' | b'\n' | b'\r')
 }
 
-// Where a token begins before which a comma may stand.
+// Returns the offset of the next token, searching from `offset` on. Blanks and commas before the token are passed.
 fn token_start(bytes: &[u8], offset: usize) -> usize {
     let behind = &bytes[offset.min(bytes.len())..];
     let passed = behind.iter().position(|b| !is_blank(*b) && *b != b',');
     offset.saturating_add(passed.unwrap_or(0))
 }
 
-// How many blanks a text begins with.
+// Counts the blanks at the beginning of a text.
 fn blanks_before(text: &str) -> usize {
     let bytes = text.as_bytes();
     let first = bytes.iter().position(|b| !is_blank(*b));
     first.unwrap_or(bytes.len())
 }
 
-// What is known of the last token that begins before an offset.
+// The last token that begins before an offset.
 #[derive(Clone, Copy)]
 struct Last {
-    // Where it begins.
+    // The offset of the token's first byte.
     start: usize,
-    // What is wrong with it, if reading stopped there.
+    // The problem with the token, if reading stopped at it.
     wrong: &'static str,
-    // Whether the innermost bracket that is open behind it is that of an object.
+    // Whether the innermost bracket that is open after the token belongs to an object.
     is_in_object: bool,
 }
 
-// The last token that begins before an offset.
+// Finds the last token that begins before an offset.
 fn last_before(alloc: Global, text: &str, offset: usize) -> Result<Last, NoMemory> {
     let mut scratch = Scratch::new(alloc);
     let mut reader = Reader::new(text, &mut scratch)?;
@@ -168,12 +171,12 @@ fn last_before(alloc: Global, text: &str, offset: usize) -> Result<Last, NoMemor
     Ok(last)
 }
 
-// The last byte that is no blank.
+// Returns the last byte that is not a blank.
 fn last_solid(bytes: &[u8]) -> Option<u8> {
     bytes.iter().rev().find(|b| !is_blank(**b)).copied()
 }
 
-// What is wrong with a string of which the opening quote was read.
+// Describes the problem with a string. `inside` is the text after its opening quote.
 fn wrong_string(inside: &[u8]) -> &'static str {
     let mut is_escaped = false;
     for byte in inside {
@@ -188,7 +191,7 @@ fn wrong_string(inside: &[u8]) -> &'static str {
     "a string does not end"
 }
 
-// What is wrong with what stands where a value or a name has to.
+// Describes the problem with `rest`, which must begin with a name if `is_name` is true, and with a value otherwise.
 fn wrong_beginning(rest: &[u8], is_name: bool) -> &'static str {
     match rest {
         [b'"', inside @ ..] => wrong_string(inside),
@@ -200,7 +203,8 @@ fn wrong_beginning(rest: &[u8], is_name: bool) -> &'static str {
     }
 }
 
-// What is wrong with what stands behind a value whose last byte this is, where a comma or a bracket has to.
+// Describes the problem with `rest`, which comes after a value and must begin with a comma or a closing bracket. `last`
+// is the last byte of that value.
 fn wrong_next(last: u8, rest: &[u8]) -> &'static str {
     match (last, rest) {
         (_, [b':', ..]) => "a colon, which stands behind a name alone",
@@ -210,7 +214,8 @@ fn wrong_next(last: u8, rest: &[u8]) -> &'static str {
     }
 }
 
-// What is wrong with what stands behind the front of a value.
+// Describes the problem with `rest`, which comes after the front of a value. `is_whole` says whether the front is a
+// whole value. `is_in_object` says whether its innermost open bracket belongs to an object.
 fn wrong_behind(front: &[u8], rest: &[u8], is_whole: bool, is_in_object: bool) -> &'static str {
     match (last_solid(front), rest) {
         (_, [b'/', b'/' | b'*', ..]) => "a comment, which JSON does not have",
@@ -223,7 +228,7 @@ fn wrong_behind(front: &[u8], rest: &[u8], is_whole: bool, is_in_object: bool) -
     }
 }
 
-// The brackets that the front of a value has left open, from the outermost on.
+// Returns the brackets that the front of a value leaves open. The first is the outermost.
 fn open_brackets(alloc: Global, front: &str) -> Result<Vec<u8>, NoMemory> {
     let mut scratch = Scratch::new(alloc);
     let mut reader = Reader::new(front, &mut scratch)?;
@@ -234,7 +239,7 @@ fn open_brackets(alloc: Global, front: &str) -> Result<Vec<u8>, NoMemory> {
     Ok(open)
 }
 
-// What is wrong with a text that is the front of a value.
+// Describes the problem with a text that is only the front of a value.
 fn wrong_end(alloc: Global, front: &str) -> Result<&'static str, NoMemory> {
     Ok(match open_brackets(alloc, front)?.last() {
         Some(b'[') => "the text ends too soon: a ] is missing",
@@ -243,11 +248,12 @@ fn wrong_end(alloc: Global, front: &str) -> Result<&'static str, NoMemory> {
     })
 }
 
-// Where reading stopped in a text that is no JSON and begins with no blank, and what is wrong there.
+// Returns the offset where reading stops in a text that is not JSON, and the problem there. The text must not begin
+// with a blank.
 fn stop_of_solid(alloc: Global, text: &str) -> Result<(usize, &'static str), NoMemory> {
     let offset = read_to(alloc, text)?.min(text.len());
     let (front, rest) = text.as_bytes().split_at(offset);
-    // To tell more takes a tree of the front.
+    // A more exact explanation needs a tree of the front.
     if crowd_in(front).is_some() {
         return Ok((offset, NO_JSON));
     }
@@ -266,15 +272,15 @@ fn stop_of_solid(alloc: Global, text: &str) -> Result<(usize, &'static str), NoM
     Ok((offset, wrong))
 }
 
-// Where reading stopped in a text that is no JSON, and what is wrong there. No blank before its first token is looked
-// at twice.
+// Returns the offset where reading stops in a text that is not JSON, and the problem there. The blanks before the first
+// token are examined only once.
 fn stop_of(alloc: Global, text: &str) -> Result<(usize, &'static str), NoMemory> {
     let solid = text.get(blanks_before(text)..).unwrap_or(text);
     let (offset, wrong) = stop_of_solid(alloc, solid)?;
     Ok(((text.len() - solid.len()).saturating_add(offset), wrong))
 }
 
-// Where bytes that are no JSON stop being it, and what is wrong there.
+// Returns the offset where bytes stop being JSON, and the problem there. The bytes must not be JSON.
 fn wrong_bytes(alloc: Global, bytes: &[u8]) -> Result<(usize, &'static str), NoMemory>
     ensures { IfOk result (λ x. IsWrongAt bytes.now x.0 x.1.now) }
 {
@@ -290,19 +296,21 @@ fn wrong_bytes(alloc: Global, bytes: &[u8]) -> Result<(usize, &'static str), NoM
     }
 }
 
-// What is wrong at a line and a column.
+// Writes down a problem with its line and column.
 fn wrong_at(alloc: Global, line: usize, column: usize, wrong: &str) -> Result<String, NoMemory>
     ensures { IfOk result (λ s. string_bytes s ≡ stop_words (line, column) wrong.now) }
 {
     Ok(format!(in alloc; "line {line}, column {column}: {wrong}")?)
 }
 
-/// Where bytes that are no JSON stop being it, and what is wrong there, in a person's words, as in
-/// `line 1, column 7: a comma is missing before this`. Lines and columns count from 1, and columns are
-/// characters. A byte order mark is told before all else, and then, behind the longest front that is
-/// UTF-8, that the bytes are not. Where too much of the text is JSON for a tree of it, as [`crowd_in`] has
-/// it, what is wrong is not looked for: it is `not JSON` where reading stopped. It fails for want of memory
-/// alone.
+/// Says in words where bytes stop being JSON, and describes the problem there. The bytes must not be JSON. An example
+/// is `line 1, column 7: a comma is missing before this`. Lines and columns count from 1, and columns count characters.
+///
+/// A byte order mark is reported before any other problem. If the bytes are not UTF-8, this is the next problem, and
+/// its place is after the longest front that is UTF-8.
+///
+/// If [`crowd_in`] finds too many signs for a tree in the text before the stop, this function does not look for the
+/// problem. It then reports `not JSON` at the place where reading stopped. Fails only with `NoMemory`.
 pub fn stop_in(alloc: Global, bytes: &[u8]) -> Result<String, NoMemory>
     ensures { IfOk result (λ s. IsStop bytes.now (string_bytes s)) }
 {

@@ -1,4 +1,4 @@
-//! The tree of a JSON text.
+//! Builds the tree of a JSON text.
 
 ghost use Rattle.std.specs.Prelude.{◌≡◌, IfErr, IfOk, option_map};
 ghost use Rattle.serde_json.specs.Read.{read};
@@ -9,7 +9,8 @@ use mencius_base::NoMemory;
 use serde_json::{Error, Value};
 use std::alloc::Global;
 
-/// An answer of `serde_json`, with want of memory apart from what is wrong with a text.
+/// Separates a failed allocation from the errors of a text. Fails with `NoMemory` if `serde_json` reports that memory
+/// ran out. Any other result of `serde_json` is returned unchanged.
 pub(crate) fn memory_apart(answer: Result<Value, Error>) -> Result<Result<Value, Error>, NoMemory>
     ensures answer { IfOk result (λ same. same ≡ answer) }
     ensures text { IfOk result (λ same. IfErr same (λ e. ¬ IsMemory e)) }
@@ -21,7 +22,7 @@ pub(crate) fn memory_apart(answer: Result<Value, Error>) -> Result<Result<Value,
     }
 }
 
-/// The tree of a text, if it is JSON. It fails for want of memory alone.
+/// Builds the tree of a text. Returns `None` if the text is not JSON, and fails only with `NoMemory`.
 pub fn tree_of(alloc: Global, text: &str) -> Result<Option<Value>, NoMemory>
     ensures { IfOk result (λ o. option_map view o ≡ read text.now) }
 {

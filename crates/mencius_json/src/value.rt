@@ -1,8 +1,8 @@
-//! The next value of a JSON text, read from its tokens: no tree is made of it.
+//! Reads the next value of a JSON text from its tokens, and builds no tree.
 //!
-//! A `depth` says how deep lists and objects may nest in the value, itself counted. `Invalid` says that
-//! no such value comes next: the text is no JSON, or it nests deeper. What is left of the tokens then
-//! says nothing.
+//! `depth` says how deep lists and objects may nest in the value, including the value itself. `Invalid` says that no
+//! such value comes next. The text is then not JSON, or it nests deeper. After `Invalid`, the remaining tokens have no
+//! meaning.
 
 ghost use Rattle.std.specs.Prelude.{true, false, ◌≡◌, ◌∷◌, ◌<◌, ◌+◌, ◌==◌, Some, None, IfErr, IfOk, OnOk, length, option_and_then, option_map};
 ghost use Rattle.json.specs.Reads.{token_of};
@@ -14,10 +14,10 @@ ghost use Rattle.mencius_json.specs.Next.{EntersArray, EntersObject, next_items,
 use fast_float::Numeral;
 use json::{Invalid, Reader, Token};
 
-/// How deep lists and objects may nest in a JSON text, as `serde_json` has it.
+/// The greatest depth of nested lists and objects in a JSON text. It is the same as in `serde_json`.
 pub const MOST_DEPTH: usize = 127;
 
-// The text of a token that is a text.
+// Returns the text of a string token, and `None` for any other token.
 fn text_in<'a>(token: Token<'a>) -> Option<&'a str>
     ensures { option_map (λ s. s.now) result ≡ text_of (token_of token.entry) }
 {
@@ -27,7 +27,7 @@ fn text_in<'a>(token: Token<'a>) -> Option<&'a str>
     }
 }
 
-// The text of a token that is a number.
+// Returns the text of a number token, and `None` for any other token.
 fn number_in<'a>(token: Token<'a>) -> Option<&'a str>
     ensures { option_map (λ s. s.now) result ≡ number_text (token_of token.entry) }
 {
@@ -37,21 +37,21 @@ fn number_in<'a>(token: Token<'a>) -> Option<&'a str>
     }
 }
 
-// Whether a list begins.
+// Returns whether a token begins a list.
 fn is_begin_array(token: Token<'_>) -> bool
     ensures { result ≡ is_begin_array (token_of token.entry) }
 {
     matches!(token, Token::BeginArray)
 }
 
-/// Whether an object begins with a token.
+/// Returns whether a token begins an object.
 pub fn is_begin_object(token: Token<'_>) -> bool
     ensures { result ≡ is_begin_object (token_of token.entry) }
 {
     matches!(token, Token::BeginObject)
 }
 
-// A number that is not whole, or negative, where it is not too large.
+// Reads a number that is negative or not a `u64`. Returns `Some(None)` if it is finite, and `None` if it is too large.
 fn finite(is_negative: bool, numeral: &Numeral<'_>) -> Option<Option<u64>>
     ensures { result ≡ option_map as_u64 (float_of is_negative numeral.now) }
 {
@@ -82,8 +82,8 @@ fn negative(numeral: &Numeral<'_>) -> Option<Option<u64>>
     finite(true, numeral)
 }
 
-/// The whole number that a number's text is, where it is one. None where the number is too large to
-/// be one of JSON's as `serde_json` reads it.
+/// Reads the text of a number. Returns `Some(Some(n))` for a whole number `n` that is a `u64`, and `Some(None)` for any
+/// other number. Returns `None` if the number is too large for `serde_json`.
 #[tactic(auto, unfolding(serde_json::specs::Read::number_of))]
 pub(crate) fn whole_number(text: &str) -> Option<Option<u64>>
     ensures { result ≡ option_map as_u64 (number_of text.now) }
@@ -95,8 +95,8 @@ pub(crate) fn whole_number(text: &str) -> Option<Option<u64>>
     }
 }
 
-/// Passes the rest of the value whose first token was read. `Invalid` where the token and those
-/// behind it are no value that nests at most `depth` deep.
+/// Passes the rest of a value after its first token, `token`, was read. Fails with `Invalid` if `token` and the tokens
+/// after it do not begin with a value that nests at most `depth` deep.
 #[cycle(pass)]
 pub fn pass_from(reader: &mut Reader<'_>, token: Token<'_>, depth: usize) -> Result<(), Invalid>
     ensures ok { OnOk result ((d : Data)
@@ -127,7 +127,7 @@ pub fn pass_from(reader: &mut Reader<'_>, token: Token<'_>, depth: usize) -> Res
     }
 }
 
-/// Passes the next value. `Invalid` where none comes that nests at most `depth` deep.
+/// Passes the next value. Fails with `Invalid` if no value comes next, or if the value nests more than `depth` deep.
 #[cycle(pass)]
 pub fn pass(reader: &mut Reader<'_>, depth: usize) -> Result<(), Invalid>
     ensures ok { OnOk result ((d : Data) × (next_value depth reader.old ≡ Some (d, reader.new))) }
@@ -166,8 +166,8 @@ fn pass_members(reader: &mut Reader<'_>, depth: usize) -> Result<(), Invalid>
     Ok(())
 }
 
-/// The whole number that the next value is, or None where it is another one, which is then passed.
-/// `Invalid` as in [`pass`].
+/// Reads the next value, and returns it if it is a whole number that fits in a `u64`. Any other value is passed, and
+/// the result is `None`. Fails with `Invalid` under the same conditions as [`pass`].
 pub fn next_whole(reader: &mut Reader<'_>, depth: usize) -> Result<Option<u64>, Invalid>
     ensures ok { IfOk result (λ x. (d : Data) × (next_value depth reader.old ≡ Some (d, reader.new))
         × (x ≡ option_and_then as_u64 (as_number d))) }
@@ -187,9 +187,9 @@ pub fn next_whole(reader: &mut Reader<'_>, depth: usize) -> Result<Option<u64>, 
     }
 }
 
-/// The text that the next value is, or None where it is another one, which is then passed. `Invalid`
-/// as in [`pass`].
-// Always inlined: a call would move each text through memory.
+/// Reads the next value, and returns its text if it is a text. Any other value is passed, and the result is `None`.
+/// Fails with `Invalid` under the same conditions as [`pass`].
+// This function is always inlined, because a call would move each text through memory.
 #[inline(always)]
 pub fn next_text<'a>(reader: &mut Reader<'a>, depth: usize) -> Result<Option<&'a str>, Invalid>
     ensures ok { IfOk result (λ x. (d : Data) × (next_value depth reader.old ≡ Some (d, reader.new))
@@ -207,8 +207,9 @@ pub fn next_text<'a>(reader: &mut Reader<'a>, depth: usize) -> Result<Option<&'a
     }
 }
 
-/// Whether the next value is a list, whose bracket is then read: its items come next, each nesting
-/// one less deep. Any other value is passed. `Invalid` as in [`pass`], of a list as far as its bracket.
+/// Returns whether the next value is a list. If it is, only its opening bracket is read. Its items come next, and each
+/// may nest one level less deep. Any other value is passed. Fails with `Invalid` under the same conditions as [`pass`],
+/// but checks a list only up to its opening bracket.
 pub fn enter_array(reader: &mut Reader<'_>, depth: usize) -> Result<bool, Invalid>
     requires { 0 < depth }
     ensures ok { IfOk result (EntersArray depth reader.old reader.new) }
@@ -223,8 +224,9 @@ pub fn enter_array(reader: &mut Reader<'_>, depth: usize) -> Result<bool, Invali
     Ok(false)
 }
 
-/// Whether the next value is an object, whose brace is then read: its fields come next, each nesting
-/// one less deep. Any other value is passed. `Invalid` as in [`pass`], of an object as far as its brace.
+/// Returns whether the next value is an object. If it is, only its opening brace is read. Its fields come next, and
+/// each value may nest one level less deep. Any other value is passed. Fails with `Invalid` under the same conditions
+/// as [`pass`], but checks an object only up to its opening brace.
 pub fn enter_object(reader: &mut Reader<'_>, depth: usize) -> Result<bool, Invalid>
     requires { 0 < depth }
     ensures ok { IfOk result (EntersObject depth reader.old reader.new) }

@@ -1,4 +1,4 @@
--- What keys held.
+-- The texts that keys held.
 pub mod Periods
 pub mod Changes
 pub mod TextMaps

@@ -1,4 +1,4 @@
--- A log that is read.
+-- Reading a log.
 pub mod LineWords
 pub mod TakenLines
 pub mod LogEnds

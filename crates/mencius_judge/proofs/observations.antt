@@ -1,4 +1,4 @@
--- What a judge makes of an observation.
+-- The verdict of a judge on each kind of observation.
 pub mod HistorySteps
 pub mod OrderSteps
 pub mod Steps

@@ -1,4 +1,4 @@
--- What a judge knows of a log that keeps its promises, and of one that breaks them.
+-- The facts about logs that keep their promises, and about logs that break them.
 pub mod Identities
 pub mod Logs
 pub mod Floors

@@ -1,4 +1,4 @@
--- What a judge has seen, and what it says of the next observation.
+-- The log that a judge has seen, and its verdict on the next observation.
 use Rattle.std.specs.Prelude.{◌≡◌, ◌∷◌, Option, Some, None}
 use Rattle.mencius_judge.specs.declared.judge.Judge.{Judge}
 use Rattle.mencius_judge.specs.declared.observation.Observation.{Observation}
@@ -10,7 +10,7 @@ use Rattle.mencius_judge.specs.Tables.{AreExecutions, AreFloors, AreHistories, A
 use Rattle.mencius_judge.specs.Timelines.{AreTimelines}
 use Rattle.mencius_judge.specs.Violations.{IsShownBy, promise_of}
 
--- the judge has seen this log, which keeps all promises
+-- the judge has seen this log, which keeps all promises, and the judge's data matches it
 pub record HasSeenLog (j : Judge) (w : Log) : Type 0 where
   pub one_command : AreOneCommand w
   pub were_submitted : WereSubmitted w
@@ -26,11 +26,12 @@ pub record HasSeenLog (j : Judge) (w : Log) : Type 0 where
   pub commands : j.commands ≡ command_count w
   pub lookups : j.lookups ≡ lookup_count w
 
--- the observation breaks a promise, in this way
+-- the observation o after the log w shows this violation, and breaks its promise
 abbrev pub Breaks : Log → Observation → Violation → Type 0
 Breaks w o violation = IsShownBy w o violation × (Holds (promise_of violation) (o ∷ w) → ⊥)
 
--- of an observation behind a log: no promise is broken, and the judge has seen one more; or this is how it breaks one
+-- if the result is None, the judge has seen the log w and then the observation o. Otherwise the observation breaks a
+-- promise, and the result is the violation
 abbrev pub IsJudged : Log → Observation → Option Violation → Judge → Type 0
 IsJudged w o None j = HasSeenLog j (o ∷ w)
 IsJudged w o (Some violation) j = Breaks w o violation

@@ -1,4 +1,4 @@
--- What each key held after each number of commands, and how that is kept: by the periods in which it held one text.
+-- The text that each key held after each number of commands, and the periods that record it.
 use Rattle.std.specs.Prelude.{◌≡◌, ◌≢◌, ◌≤◌, ◌<◌, ℕ, List, [], Option, Some, None, length, slice_get, take}
 use Rattle.std.proofs.Common.{Global, String, Vec}
 use Rattle.std.specs.BTreeMap.{BTreeMap, get_by_text}
@@ -9,64 +9,65 @@ use Rattle.mencius_model.specs.KeyMap.{KeyMap, apply, key_of, value_at}
 use Rattle.mencius_judge.specs.declared.timeline.Period.{Period}
 use Rattle.mencius_judge.specs.declared.timeline.Timeline.{Timeline}
 
--- what a key held after the first n of these commands
+-- the text that a key holds after the first n of these commands
 abbrev pub held_by : List Command → List ℕ → ℕ → Option (List ℕ)
 held_by commands key n = value_at key (take n commands)
 
--- the key of an operation holds this text after it, in each map that held that one there before
+-- the key of the operation holds `text` after it, in each map that holds `held` there before
 abbrev pub Becomes : Option (List ℕ) → Op → Option (List ℕ) → Type 0
 Becomes held op text =
     (store : KeyMap) → finite.get store (key_of op) ≡ held → text ≡ finite.get (apply store op) (key_of op)
 
 -- ---- the first number of commands
 
--- the key held the text after so many commands, from `from` to `to` of them, and after no less
+-- n is the lowest number of commands, from `from` to `to`, after which the key held the text
 pub record IsFirstCount (held : ℕ → Option (List ℕ)) (text : Option (List ℕ)) (from to n : ℕ) : Type 0 where
   pub later : from ≤ n
   pub within : n ≤ to
   pub holds : held n ≡ text
   pub least : (m : ℕ) → from ≤ m → m < n → held m ≢ text
 
--- the key held the text after none of these numbers
+-- the key did not hold the text after any number of commands from `from` to `to`
 abbrev pub HasNone : (ℕ → Option (List ℕ)) → Option (List ℕ) → ℕ → ℕ → Type 0
 HasNone held text from to = (m : ℕ) → from ≤ m → m ≤ to → held m ≢ text
 
 -- ---- periods
 
--- none of them is empty, and each ends before the next begins
+-- no period is empty, and each one ends before all later ones begin
 pub record AreRising (periods : List Period) : Type 0 where
   pub filled : (i : ℕ) (p : Period) → slice_get periods i ≡ Some p → p.first < p.stop
   pub apart : (i j : ℕ) (p q : Period) → i < j → slice_get periods i ≡ Some p → slice_get periods j ≡ Some q
       → p.stop ≤ q.first
 
--- all of them end by then
+-- each of these periods stops at n or before
 abbrev pub AllBefore : List Period → ℕ → Type 0
 AllBefore periods n = (i : ℕ) (p : Period) → slice_get periods i ≡ Some p → p.stop ≤ n
 
--- it is the first of them that does not end by then
+-- p is the first of these periods that stops after n
 pub record IsFirstPeriod (periods : List Period) (n : ℕ) (p : Period) : Type 0 where
   pub index : ℕ
   pub there : slice_get periods index ≡ Some p
   pub later : n < p.stop
   pub first : (i : ℕ) (q : Period) → i < index → slice_get periods i ≡ Some q → q.stop ≤ n
 
+-- the periods of a list, or no periods without a list
 abbrev pub items_of : Option (Vec Period Global) → List Period
 items_of None = []
 items_of (Some periods) = periods.items
 
--- the periods, up to the last change, in which the key held this text
+-- the periods before the last change in which the key held this text, or held none
 abbrev pub periods_of : Timeline → Option (List ℕ) → List Period
 periods_of t None = t.absences.items
 periods_of t (Some text) = items_of (get_by_text t.presences text)
 
 -- ---- timelines
 
--- the timeline is that of what the key held after each of so many commands
+-- the timeline records the text that a key held after each number of commands, up to `count`
 pub record IsTimeline (held : ℕ → Option (List ℕ)) (count : ℕ) (t : Timeline) : Type 0 where
-  -- what it holds since the last change
+  -- the key has held its present text since the last change
   pub since : t.since ≤ count
   pub now : (n : ℕ) → t.since ≤ n → n ≤ count → held n ≡ t.text
-  -- the periods of a text are those in which it held the text before
+  -- the periods of a text are exactly the numbers before the last change after which the key held the text
   pub rising : (x : Option (List ℕ)) → AreRising (periods_of t x)
   pub before : (x : Option (List ℕ)) → AllBefore (periods_of t x) t.since
   pub holds : (x : Option (List ℕ)) (i : ℕ) (p : Period) → slice_get (periods_of t x) i ≡ Some p
@@ -74,15 +75,16 @@ pub record IsTimeline (held : ℕ → Option (List ℕ)) (count : ℕ) (t : Time
   pub all : (x : Option (List ℕ)) (n : ℕ) → n < t.since → held n ≡ x
       → (i : ℕ) × (p : Period) × (slice_get (periods_of t x) i ≡ Some p) × (p.first ≤ n) × (n < p.stop)
 
--- a key without a timeline never held anything
+-- the timeline, if there is one, is right for the key. A key without a timeline has never held a text
 abbrev pub IsTimelineOf : (ℕ → Option (List ℕ)) → ℕ → Option Timeline → Type 0
 IsTimelineOf held count None = (n : ℕ) → n ≤ count → held n ≡ None
 IsTimelineOf held count (Some t) = IsTimeline held count t
 
+-- the text that a key holds now, by its timeline
 abbrev pub text_of : Option Timeline → Option (List ℕ)
 text_of None = None
 text_of (Some t) = t.text
 
--- each key has its timeline
+-- the map has the right timeline of each key after these commands
 abbrev pub AreTimelines : List Command → BTreeMap (String Global) Timeline → Type 0
 AreTimelines commands by_key = (key : List ℕ) → IsTimelineOf (held_by commands key) (length commands) (get_by_text by_key key)

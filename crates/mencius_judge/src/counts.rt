@@ -2,25 +2,26 @@ ghost use Rattle.std.specs.Prelude.{◌≡◌, ◌+◌, IfOk};
 
 use mencius_base::NoMemory;
 
-/// What was seen of a store that kept all promises, in numbers.
+/// The counts of a log that keeps all promises.
 #[derive(Clone, Copy, Debug, PartialEq, Eq)]
 pub struct Counts {
-    /// The servers that executed something.
+    /// The number of servers that executed at least one command.
     pub servers: usize,
-    /// The identities that commands were submitted under.
+    /// The number of different identities of submitted commands.
     pub commands: u64,
-    /// The commands of the longest history.
+    /// The number of commands in the longest history.
     pub executed: usize,
-    /// The commands that had a reply.
+    /// The number of commands that had a reply.
     pub replies: usize,
-    /// Those of them that stand in no history, so that nothing has judged their replies.
+    /// The number of commands that had a reply but are in no history. Nothing has checked whether these replies are
+    /// right.
     pub open_replies: usize,
-    /// The look-ups.
+    /// The number of lookups.
     pub lookups: u64,
 }
 
-/// A count with one more. No count is known to come near the greatest `u64`; there it has no room, as if
-/// memory had run out.
+/// Returns the count plus 1, or `NoMemory` if that would exceed the greatest `u64`. No count is known to come near that
+/// number.
 pub(crate) fn one_more(count: u64) -> Result<u64, NoMemory>
     ensures { IfOk result (λ more. more ≡ count + 1) }
 {

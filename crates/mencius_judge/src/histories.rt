@@ -8,18 +8,18 @@ ghost use Rattle.mencius_judge.specs.Tables.{IsNext};
 use mencius_base::{CommandId, NoMemory};
 use std::alloc::Global;
 
-/// What the next command of a server is, beside what other servers executed.
+/// How the next command of a server compares with the commands that other servers executed.
 #[derive(Clone, Copy, Debug, PartialEq, Eq)]
 pub enum Next {
-    /// The command that another server executed at this place.
+    /// Another server executed the same command at this place.
     Follows,
-    /// Another command than that one.
+    /// Another server executed the command `expected` at this place, which is a different one.
     Differs { expected: CommandId },
-    /// A command at a place that no server had reached.
+    /// No server had reached this place.
     Leads,
 }
 
-/// What the servers executed: the longest history, and how much of it each server has.
+/// The commands that the servers executed, as the longest history and the number of its commands that each server has.
 #[derive(Drop)]
 pub struct Histories {
     pub order: Vec<CommandId>,
@@ -28,7 +28,7 @@ pub struct Histories {
 }
 
 impl Histories {
-    /// No server has executed anything.
+    /// Creates the histories of servers that have executed nothing.
     pub fn new(alloc: Global) -> Result<Histories, NoMemory>
         ensures order { IfOk result (λ h. h.order.items ≡ []) }
         ensures counts { IfOk result (λ h. h.counts.items ≡ replicate 256 0) }
@@ -39,7 +39,7 @@ impl Histories {
         })
     }
 
-    /// What this command would be at the server's next place.
+    /// Returns how this command would compare if the server executed it next.
     pub fn next(&self, server: u8, id: CommandId) -> Next
         ensures { IsNext self.now.order.items (get_or self.now.counts.items server 0) id result }
     {
@@ -51,14 +51,14 @@ impl Histories {
         }
     }
 
-    /// How many commands a server has executed.
+    /// Returns the number of commands that a server has executed.
     pub fn count(&self, server: u8) -> usize
         ensures { result ≡ get_or self.now.counts.items server 0 }
     {
         self.counts[server as usize]
     }
 
-    /// How many servers have executed a command.
+    /// Returns the number of servers that have executed at least one command.
     pub fn servers(&self) -> usize
         ensures { result ≡ count_by is_some_length self.now.counts.items }
     {
@@ -66,14 +66,15 @@ impl Histories {
         counts.iter().filter(|count| **count > 0).count()
     }
 
-    /// How many commands the longest history has.
+    /// Returns the number of commands in the longest history.
     pub fn longest(&self) -> usize
         ensures { result ≡ length self.now.order.items }
     {
         self.order.len()
     }
 
-    /// The server executes the command that stands at its next place.
+    /// Records that the server executes the next command of the longest history. The server must not have executed all
+    /// of that history yet.
     pub fn follow(&mut self, server: u8)
         requires { get_or self.old.counts.items server 0 < length self.old.order.items }
         ensures order { self.new.order.items ≡ self.old.order.items }
@@ -83,7 +84,7 @@ impl Histories {
         self.counts[server as usize] += 1;
     }
 
-    /// The server executes this command where no server had come.
+    /// Records that the server executes this command at a place that no server had reached.
     pub fn lead(&mut self, server: u8, id: CommandId) -> Result<(), NoMemory>
         ensures order { OnOk result (self.new.order.items ≡ self.old.order.items ++ id ∷ []) }
         ensures counts { OnOk result (self.new.counts.items

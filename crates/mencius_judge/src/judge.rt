@@ -20,17 +20,17 @@ use mencius_base::{Command, CommandId, Key, NoMemory, Text};
 use std::alloc::Global;
 use std::collections::BTreeMap;
 
-// How many commands a client may number.
+// The number of different command numbers of a client.
 const NUMBER_COUNT: u64 = 1 << 32;
 
-// An identity as one number.
+// Returns an identity as a single number.
 fn identity_key(id: CommandId) -> u64
     ensures { result ≡ identity_key id }
 {
     u64::from(id.client) * NUMBER_COUNT + u64::from(id.number)
 }
 
-/// A command that was submitted, and how many commands had a reply by then.
+/// A submitted command, and the number of commands that had a reply when it was first submitted.
 #[derive(Drop)]
 pub struct Submission {
     command: Command,
@@ -49,33 +49,33 @@ impl Submission {
     }
 }
 
-/// Where a command stands in the longest history, and what the map answers there.
+/// The place of a command in the longest history, and the reply that the map gives there.
 #[derive(Drop)]
 pub struct Execution {
     place: usize,
     reply: Option<Text>,
 }
 
-/// What a store did so far, as far as it takes to judge what it does next.
+/// The knowledge of a store that is needed to judge its next observation.
 ///
-/// It keeps nothing of what was observed but the commands, the changes of the keys and how far each
-/// reader has come.
+/// A judge does not keep the observations. It keeps the commands, their first replies, the longest history, the changes
+/// of the keys, and how far each server and each reader has come.
 #[derive(Drop)]
 pub struct Judge {
     histories: Histories,
-    // What each key held after each beginning of the longest history.
+    // The text that each key held after each prefix of the longest history.
     timelines: Timelines,
-    // By identity: what was submitted, the first reply, and how it was executed.
+    // The submissions, the first replies and the executions of commands, by `identity_key`.
     submissions: BTreeMap<u64, Submission>,
     replies: BTreeMap<u64, Option<Text>>,
     executions: BTreeMap<u64, Execution>,
-    // The commands that had a reply, in the order of their first ones, and how many of them, from the
-    // first on, stand in the longest history.
+    // The commands that had a reply, in the order of their first replies. The first `settled_count` of them are known
+    // to be in the longest history.
     with_reply: Vec<CommandId>,
     settled_count: usize,
-    // Of each reader how many commands of the longest history it has seen at least.
+    // For each reader, the lowest number of commands of the longest history that it may have seen.
     floors: BTreeMap<u64, usize>,
-    // How many commands were submitted, and how many look-ups there were.
+    // The number of different identities of submitted commands, and the number of lookups.
     commands: u64,
     lookups: u64,
 }
@@ -84,7 +84,7 @@ impl Judge {
     ghost use Rattle.mencius_judge.specs.Counts.{AreCounts};
     ghost use Rattle.mencius_judge.specs.Judged.{Breaks, HasSeenLog, IsJudged};
 
-    /// Nothing was seen yet.
+    /// Creates a judge that has seen nothing.
     pub fn new(alloc: Global) -> Result<Judge, NoMemory>
         ensures { IfOk result (λ j. HasSeenLog j []) }
     {
@@ -102,11 +102,12 @@ impl Judge {
         })
     }
 
-    /// Takes the next observation, and says how it breaks a promise, if it breaks one.
+    /// Judges the next observation. Returns how it breaks a promise, or `None` if it breaks none.
     ///
-    /// A judge that is at a log, which keeps all promises, is then at the log with the observation; or
-    /// the violation is shown by the observation, and its promise is broken. Of a judge that found a
-    /// violation, or had no memory, nothing is known.
+    /// Suppose that the judge has seen a log, which keeps all promises (`HasSeenLog`). If the result is `None`, the
+    /// judge has then seen the log with the observation, and this log keeps all promises too. If the result is a
+    /// violation, the observation shows it and breaks its promise. After a violation or `NoMemory`, nothing is known
+    /// about the judge.
     pub fn observe(&mut self, observation: &Observation) -> Result<Option<Violation>, NoMemory>
         ensures judged { IfOk result (λ x. (w : Log) → HasSeenLog self.old w
             → IsJudged w observation.now x self.new) }
@@ -122,7 +123,7 @@ impl Judge {
         }
     }
 
-    /// What was seen, in numbers. It goes through the commands that had a reply.
+    /// Returns the counts of the log so far. It goes through all commands that had a reply.
     pub fn counts(&self) -> Counts
         ensures { (w : Log) → HasSeenLog self.now w → AreCounts w result }
     {
@@ -169,7 +170,7 @@ impl Judge {
         }
     }
 
-    // How it breaks a promise that a server executes a command where another one was expected.
+    // Returns the violation of a server that executes a command at a place where another server executed `expected`.
     fn differing(&self, server: u8, id: CommandId, expected: CommandId) -> Violation
         ensures { (w : Log) → HasSeenLog self.now w
             → IsNext self.now.histories.order.items (get_or self.now.histories.counts.items server 0) id
@@ -187,7 +188,7 @@ impl Judge {
         }
     }
 
-    // A server executes a command at a place that no server had reached.
+    // Judges the execution of a command at a place that no server had reached.
     fn lead(&mut self, server: u8, id: CommandId) -> Result<Option<Violation>, NoMemory>
         ensures { IfOk result (λ x. (w : Log) → HasSeenLog self.old w
             → IsNext self.old.histories.order.items (get_or self.old.histories.counts.items server 0) id Leads
@@ -296,7 +297,7 @@ impl Judge {
     }
 }
 
-// How many commands a reader has seen at least.
+// Returns the lowest number of commands that a reader may have seen.
 fn floor_of(floors: &BTreeMap<u64, usize>, reader: u32) -> usize
     ensures { result ≡ floor_of floors.now reader }
 {
@@ -306,7 +307,7 @@ fn floor_of(floors: &BTreeMap<u64, usize>, reader: u32) -> usize
     }
 }
 
-// Binds a number, or finds no memory for it.
+// Binds a number to a value, or fails with `NoMemory`.
 fn put<V: Drop>(map: &mut BTreeMap<u64, V>, key: u64, value: V) -> Result<(), NoMemory>
     ensures { OnOk result (Updates nat_cmp map.old map.new key (Some value)) }
 {
@@ -314,7 +315,7 @@ fn put<V: Drop>(map: &mut BTreeMap<u64, V>, key: u64, value: V) -> Result<(), No
     Ok(())
 }
 
-// The text at a number, where it is another one than this.
+// Returns the text that the map has at a number, if it differs from `text`.
 fn other_text<'a>(
     texts: &'a BTreeMap<u64, Option<Text>>,
     key: u64,
@@ -334,7 +335,7 @@ fn other_text<'a>(
     }
 }
 
-// The execution at a number, where its reply is another one than this.
+// Returns the execution that the map has at a number, if its reply differs from `text`.
 fn other_execution<'a>(
     executions: &'a BTreeMap<u64, Execution>,
     key: u64,
@@ -354,7 +355,8 @@ fn other_execution<'a>(
     }
 }
 
-// How many commands with a reply, from the first on, were executed, where the first `start` of them are known to be.
+// Returns the place of the first command with a reply that was not executed, or the number of all commands with a
+// reply. The first `start` of them must be known to be executed.
 fn count_settled(
     executions: &BTreeMap<u64, Execution>,
     with_reply: &[CommandId],
@@ -373,7 +375,7 @@ fn count_settled(
     with_reply.len()
 }
 
-// Whether the command with a reply at this place was executed.
+// Returns whether the command at this place of `with_reply` was executed.
 fn is_settled(executions: &BTreeMap<u64, Execution>, with_reply: &[CommandId], place: usize) -> bool
     ensures { IsTrue result ↔ IsSettledAt with_reply.now executions.now place }
 {
@@ -383,7 +385,7 @@ fn is_settled(executions: &BTreeMap<u64, Execution>, with_reply: &[CommandId], p
     }
 }
 
-// How many commands with a reply were not executed.
+// Returns the number of commands with a reply that were not executed.
 fn open_count(executions: &BTreeMap<u64, Execution>, with_reply: &[CommandId]) -> usize
     ensures { result ≡ count_by (has_no_place executions.now) with_reply.now }
 {
@@ -393,7 +395,8 @@ fn open_count(executions: &BTreeMap<u64, Execution>, with_reply: &[CommandId]) -
         .count()
 }
 
-// The first command with a reply that was not executed, where it is one of the first `behind`.
+// Returns the first command with a reply that was not executed, if it is one of the first `behind` commands with a
+// reply.
 fn first_unsettled(with_reply: &[CommandId], settled: usize, behind: usize) -> Option<CommandId>
     ensures { MatchOption result (settled < behind → length with_reply.now ≤ settled)
         (λ id. (settled < behind) × (slice_get with_reply.now settled ≡ Some id)) }

@@ -1,8 +1,8 @@
-//! A judge of replicated stores: it is told what a store did, one observation after the other, and
-//! says whether the store has kept its promises so far.
+//! A judge of replicated stores. It receives the observations of a store one after the other, and reports whether the
+//! store has kept its promises so far.
 //!
-//! It knows nothing of any protocol. What servers executed is the witness, so that nothing is searched
-//! for: each observation costs a few look-ups.
+//! The judge does not depend on any protocol. The commands that servers executed are its witness, so it does not search
+//! for an order. Each observation costs only a few lookups in maps.
 #![tactic(auto)]
 
 mod counts;

@@ -1,4 +1,4 @@
-//! All that tells one operation on the map from another.
+//! Everything that distinguishes one operation on the map from another.
 
 ghost use Rattle.std.specs.Prelude.{◌≡◌, ◌↔◌, IfOk, IsTrue};
 ghost use Rattle.mencius_model.specs.KeyMap.{has_text, key_of};
@@ -7,7 +7,7 @@ ghost use Rattle.mencius_judge.specs.Timelines.{Becomes};
 use crate::texts::copy_of;
 use mencius_base::{NoMemory, Op, Text};
 
-/// Whether two operations are the same.
+/// Returns whether two operations are the same.
 pub fn is_same_op(first: &Op, second: &Op) -> bool
     ensures { IsTrue result ↔ (first.now ≡ second.now) }
 {
@@ -37,7 +37,7 @@ pub fn is_same_op(first: &Op, second: &Op) -> bool
     }
 }
 
-/// The key that an operation is about.
+/// Returns the key of an operation.
 pub fn key_of(op: &Op) -> &str
     ensures { result.now ≡ key_of op.now }
 {
@@ -47,7 +47,7 @@ pub fn key_of(op: &Op) -> &str
     }
 }
 
-/// What the key of an operation holds after it, where it held this before.
+/// Returns the text that the key of an operation holds after it, if the key held `former` before it.
 #[tactic(auto, using(crate::proofs::keys::Changes::put_there, crate::proofs::keys::Changes::taken_there, crate::proofs::keys::Changes::put_where_held))]
 pub fn text_after(former: &Option<Text>, op: &Op) -> Result<Option<Text>, NoMemory>
     ensures { IfOk result (Becomes former.now op.now) }
@@ -61,7 +61,7 @@ pub fn text_after(former: &Option<Text>, op: &Op) -> Result<Option<Text>, NoMemo
     }
 }
 
-// Whether there is a former text, and it is exactly the one that has to be held.
+// Returns whether there is a former text, and it is exactly `held`.
 fn has_text(former: &Option<Text>, held: &Text) -> bool
     ensures { result ≡ has_text former.now held.now }
 {

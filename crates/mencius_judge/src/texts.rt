@@ -2,7 +2,7 @@ ghost use Rattle.std.specs.Prelude.{◌≡◌, ◌↔◌, IfOk, IsTrue};
 
 use mencius_base::{Key, NoMemory, Text};
 
-/// Whether two texts are the same: none, or of the same bytes.
+/// Returns whether both texts are `None`, or both have the same bytes.
 pub fn is_same_text(first: &Option<Text>, second: &Option<Text>) -> bool
     ensures { IsTrue result ↔ (first.now ≡ second.now) }
 {
@@ -13,7 +13,7 @@ pub fn is_same_text(first: &Option<Text>, second: &Option<Text>) -> bool
     }
 }
 
-/// A copy of a text, if there is one.
+/// Returns a copy of a text, if there is one.
 pub fn copy_of(text: &Option<Text>) -> Result<Option<Text>, NoMemory>
     ensures { IfOk result (λ copy. copy ≡ text.now) }
 {
@@ -23,7 +23,7 @@ pub fn copy_of(text: &Option<Text>) -> Result<Option<Text>, NoMemory>
     }
 }
 
-/// A copy of a key.
+/// Returns a copy of a key.
 pub fn copy_of_key(key: &Key) -> Result<Key, NoMemory>
     ensures { IfOk result (λ copy. copy ≡ key.now) }
 {

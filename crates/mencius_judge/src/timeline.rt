@@ -7,27 +7,28 @@ use mencius_base::{NoMemory, Text};
 use std::alloc::Global;
 use std::collections::BTreeMap;
 
-/// The numbers of commands from `first` up to `stop`, which is not one of them, after which a key held
-/// one text.
+/// A range of numbers of commands after which a key held one text. It goes from `first` up to, but not including,
+/// `stop`.
 #[derive(Clone, Copy, Debug)]
 pub struct Period {
     pub first: usize,
     pub stop: usize,
 }
 
-/// What one key held after each number of commands.
+/// The text that one key held after each number of commands.
 #[derive(Drop)]
 pub struct Timeline {
-    // What it holds now, and after how many commands it came to hold that.
+    // The text that the key holds now, and the number of commands after which it began to hold it.
     pub text: Option<Text>,
     pub since: usize,
-    // When it held nothing before, and when which text, the oldest period first.
+    // The earlier periods in which the key held no text, and the earlier periods of each text. The oldest period is
+    // first.
     pub absences: Vec<Period>,
     pub presences: BTreeMap<String, Vec<Period>>,
 }
 
 impl Timeline {
-    /// The key has held nothing yet.
+    /// Creates the timeline of a key that has never held a text.
     pub fn new(alloc: Global) -> Timeline
         ensures text { result.text ≡ None }
         ensures since { result.since ≡ 0 }
@@ -41,7 +42,7 @@ impl Timeline {
         }
     }
 
-    /// The key came to hold this text, or none, after so many commands.
+    /// Records that the key holds this text, or none, after `count` commands.
     pub fn change(
         &mut self,
         alloc: Global,
@@ -68,8 +69,8 @@ impl Timeline {
         Ok(())
     }
 
-    /// The least number of commands, from `from` to `to`, after which the key held this text, where
-    /// `to` is how many commands there are.
+    /// Returns the lowest number of commands, from `from` to `to`, after which the key held this text. Returns `None`
+    /// if the key held it after none of these numbers. `to` must be the number of all executed commands.
     pub fn first_count(&self, text: &Option<Text>, from: usize, to: usize) -> Option<usize>
         ensures { (held : ℕ → Option (List ℕ)) → IsTimeline held to self.now
             → MatchOption result (HasNone held text.now from to) (IsFirstCount held text.now from to) }
@@ -83,7 +84,7 @@ impl Timeline {
         None
     }
 
-    // The first period of a text that does not end before a number of commands.
+    // Returns the first period of a text that contains `from` or begins after it.
     fn first_period(&self, text: &Option<Text>, from: usize) -> Option<Period>
         ensures { AreRising (periods_of self.now text.now)
             → MatchOption result (AllBefore (periods_of self.now text.now) from)
@@ -99,7 +100,7 @@ impl Timeline {
     }
 }
 
-// The first of these periods that does not end before a number of commands.
+// Returns the first of these periods that contains `from` or begins after it.
 fn period_after(periods: &[Period], from: usize) -> Option<Period>
     ensures { AreRising periods.now
         → MatchOption result (AllBefore periods.now from) (IsFirstPeriod periods.now from) }
@@ -111,7 +112,7 @@ fn period_after(periods: &[Period], from: usize) -> Option<Period>
     }
 }
 
-// Puts a period behind those of a text.
+// Appends a period to the periods of a text.
 fn push_period(
     alloc: Global,
     presences: &mut BTreeMap<String, Vec<Period>>,
@@ -131,7 +132,7 @@ fn push_period(
     put_text(alloc, presences, text, periods)
 }
 
-/// Binds a text, or finds no memory for it.
+/// Binds `text` to `value`, or fails with `NoMemory`.
 pub fn put_text<V: Drop>(
     alloc: Global,
     map: &mut BTreeMap<String, V>,

@@ -11,7 +11,7 @@ use mencius_base::{Command, NoMemory, Text};
 use std::alloc::Global;
 use std::collections::BTreeMap;
 
-/// What each key held after each number of commands.
+/// The text that each key held after each number of commands.
 #[derive(Drop)]
 pub struct Timelines {
     alloc: Global,
@@ -19,7 +19,7 @@ pub struct Timelines {
 }
 
 impl Timelines {
-    /// No command was executed, and no key holds anything.
+    /// Creates the timelines before any command is executed. No key holds a text then.
     pub fn new(alloc: Global) -> Timelines
         ensures { AreTimelines [] result.by_key }
     {
@@ -29,7 +29,7 @@ impl Timelines {
         }
     }
 
-    /// Executes a command, with which there are `count`, and answers what its key held before it.
+    /// Executes a command, which is the `count`-th one. Returns the text that its key held before it.
     pub fn execute(&mut self, command: &Command, count: usize) -> Result<Option<Text>, NoMemory>
         ensures reply { IfOk result (λ reply. (cs : List Command) → AreTimelines cs self.old.by_key
             → reply ≡ out cs command.now) }
@@ -46,8 +46,8 @@ impl Timelines {
         Ok(held)
     }
 
-    /// The least number of commands, from `from` to `to`, after which the key held this text, where
-    /// `to` is how many commands there are.
+    /// Returns the lowest number of commands, from `from` to `to`, after which the key held this text. Returns `None`
+    /// if the key held it after none of these numbers. `to` must be the number of all executed commands.
     pub fn first_count(
         &self,
         key: &str,
@@ -65,7 +65,7 @@ impl Timelines {
         }
     }
 
-    // A copy of what a key holds.
+    // Returns a copy of the text that a key holds now.
     fn text_of(&self, key: &str) -> Result<Option<Text>, NoMemory>
         ensures { IfOk result (λ text. text ≡ text_of (get_by_text self.now.by_key key.now)) }
     {
@@ -75,7 +75,7 @@ impl Timelines {
         }
     }
 
-    // A key came to hold this text after so many commands.
+    // Records that a key holds this text, or none, after `count` commands.
     fn change(&mut self, key: &str, text: Option<Text>, count: usize) -> Result<(), NoMemory>
         ensures own { OnOk result ((held after : ℕ → Option (List ℕ)) (n : ℕ)
             → IsTimelineOf held n (get_by_text self.old.by_key key.now) → n + 1 ≡ count
@@ -93,7 +93,7 @@ impl Timelines {
     }
 }
 
-// The same of a key that never held anything.
+// Like `Timelines::first_count`, for a key that has never held a text.
 fn first_absence(text: &Option<Text>, from: usize, to: usize) -> Option<usize>
     ensures { (held : ℕ → Option (List ℕ)) → IsTimelineOf held to None
         → MatchOption result (HasNone held text.now from to) (IsFirstCount held text.now from to) }

@@ -3,74 +3,77 @@ ghost use Rattle.mencius_judge.specs.Violations.{promise_of};
 
 use mencius_base::{CommandId, Key, Text};
 
-/// What a store promises.
+/// A promise of a store.
 #[derive(Clone, Copy, Debug, PartialEq, Eq)]
 pub enum Promise {
-    /// An identity stands for one command.
+    /// An identity belongs to only one command.
     OneCommand,
-    /// What is executed or answered was submitted before.
+    /// A command that is executed or gets a reply was submitted before.
     Submitted,
     /// No server executes a command twice.
     Once,
-    /// Of the histories of two servers one is a prefix of the other.
+    /// One of the histories of any two servers is a prefix of the other.
     SameOrder,
-    /// A command that was submitted after another had its reply stands behind it.
+    /// If a command in a history was first submitted after another one had its reply, the other one comes before it.
     RealTime,
-    /// A command has one reply.
+    /// All replies to a command are the same.
     OneReply,
-    /// A reply is what a map answers that executes the history alone.
+    /// A reply is the text that a map holds at the command's key after it has executed exactly the commands before it
+    /// in a history.
     RightReply,
-    /// A look-up is answered from a beginning of a history, which holds all that its reader saw before
-    /// or was told of.
+    /// A lookup finds the text that its key held after a prefix of a history. This prefix contains everything that the
+    /// reader saw or was told of before.
     RightLookup,
 }
 
 /// How an observation breaks a promise. Places in a history count from 0.
 #[derive(Debug, Drop)]
 pub enum Violation {
-    /// Another command was submitted under the identity of an earlier one.
+    /// A different command was submitted with the identity of an earlier one.
     OneCommand {
         id: CommandId,
     },
-    /// The command was executed, or had a reply, and was never submitted.
+    /// The command was executed or had a reply, but was not submitted before.
     Submitted {
         id: CommandId,
     },
-    /// The server executed the command at this place, and had executed it before.
+    /// The server executed the command at this place, but had already executed it before.
     Once {
         server: u8,
         place: usize,
         id: CommandId,
     },
-    /// The server executed a command where another server has executed another one.
+    /// The server executed the command `found` at this place, but another server executed `expected` there.
     SameOrder {
         server: u8,
         place: usize,
         expected: CommandId,
         found: CommandId,
     },
-    /// The server executed the command before one that had its reply when the command was submitted.
+    /// The server executed the command at this place, but had not executed `behind`. That command had its reply when
+    /// this one was first submitted.
     RealTime {
         server: u8,
         place: usize,
         id: CommandId,
         behind: CommandId,
     },
-    /// The command had another reply before.
+    /// The command has the reply `found`, but its first reply was `expected`.
     OneReply {
         id: CommandId,
         expected: Option<Text>,
         found: Option<Text>,
     },
-    /// The command stands at this place, where a map answers something else than its reply.
+    /// The command has the reply `found`, but a map that executes the history returns `expected` at the command's
+    /// place.
     RightReply {
         id: CommandId,
         place: usize,
         expected: Option<Text>,
         found: Option<Text>,
     },
-    /// After none of the first `from` to `to` commands of the longest history the key holds what the
-    /// reader found, who had seen the first `from` of them.
+    /// The reader had seen the first `from` commands of the longest history, which has `to` commands. The key did not
+    /// hold the text `found` after any number of commands from `from` to `to`.
     RightLookup {
         reader: u32,
         key: Key,
@@ -81,7 +84,7 @@ pub enum Violation {
 }
 
 impl Violation {
-    /// The promise that is broken.
+    /// Returns the promise that is broken.
     pub fn promise(&self) -> Promise
         ensures { result ≡ promise_of self.now }
     {

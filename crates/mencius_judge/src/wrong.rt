@@ -1,4 +1,5 @@
-//! What is wrong with a line, in a person's words. Each word is judged by what reads it.
+//! Explains the fault of a line to a person. The functions that read servers, readers and identities also check them
+//! here.
 
 use crate::line::MOST_LINE_BYTES;
 use mencius_base::{MOST_KEY_BYTES, MOST_TEXT_BYTES, is_name};
@@ -7,10 +8,10 @@ use mencius_format::{
 };
 use mencius_io::IoFault;
 
-/// What is wrong with a line that is longer than a line may be.
+/// The explanation of a line that is too long.
 pub(crate) const TOO_LONG: &str = "it is longer than 1,024 bytes";
 
-// A word behind the first one of an observation.
+// The kind of a word after the first one of an observation.
 #[derive(Clone, Copy, Debug)]
 enum Word {
     Server,
@@ -21,7 +22,8 @@ enum Word {
     Answer,
 }
 
-/// What is wrong with a line that has this fault: the first of its words that has it.
+/// Returns the explanation of a line that has this fault. It is about the first word that has the fault, if the line is
+/// UTF-8 and not too long.
 pub(crate) fn wrong_line(line: &[u8], fault: IoFault) -> &'static str {
     if line.len() > MOST_LINE_BYTES {
         return TOO_LONG;
@@ -52,7 +54,8 @@ fn wrong_text(text: &str, fault: IoFault) -> &'static str {
     "a word of it is wrong"
 }
 
-// What the words behind the first one are, up to the operation of a command.
+// Returns the kinds of the words after the first one, up to the operation of a command. Returns `None` if no
+// observation begins with `first`.
 fn words_behind(first: &str) -> Option<&'static [Word]> {
     match first {
         "submit" => Some(&[Word::Id]),
@@ -64,7 +67,7 @@ fn words_behind(first: &str) -> Option<&'static [Word]> {
     }
 }
 
-// The next of the words that are left.
+// Takes the next word off the words that are left.
 fn next_word<'a>(left: &mut Option<&'a str>) -> Option<&'a str> {
     let text = (*left)?;
     match cut_at_space(text) {
@@ -79,7 +82,7 @@ fn next_word<'a>(left: &mut Option<&'a str>) -> Option<&'a str> {
     }
 }
 
-// The first of these words that has the fault, or is missing.
+// Explains the first of these words that has the fault or is missing.
 fn wrong_words(words: &[Word], left: &mut Option<&str>, fault: IoFault) -> Option<&'static str> {
     for word in words {
         let Some(text) = next_word(left) else {
@@ -92,7 +95,7 @@ fn wrong_words(words: &[Word], left: &mut Option<&str>, fault: IoFault) -> Optio
     None
 }
 
-// The operation, or the first of its words that has the fault.
+// Explains the operation, or the first of its words that has the fault or is missing.
 fn wrong_operation(left: &mut Option<&str>, fault: IoFault) -> Option<&'static str> {
     let Some(operands) = operands_of(next_word(left).unwrap_or("")) else {
         return Some(NO_OPERATION);
@@ -123,7 +126,7 @@ fn has_fault(word: Word, text: &str, fault: IoFault) -> bool {
     }
 }
 
-// The fault of a name that has at least and at most so many bytes.
+// Returns the fault of a name that must have `least` to `most` bytes.
 fn named_fault(text: &str, least: usize, most: usize) -> Option<IoFault> {
     if !is_name(text) {
         return Some(IoFault::BadShape);

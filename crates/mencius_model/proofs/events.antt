@@ -1,4 +1,4 @@
--- What an event adds.
+-- The effects of an event.
 pub mod EventLines
 pub mod LineServers
 pub mod TeachesNothing

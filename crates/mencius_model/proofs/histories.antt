@@ -1,4 +1,4 @@
--- What servers executed.
+-- The histories of the servers.
 pub mod Histories
 pub mod GrowingHistories
 pub mod LongestServer

@@ -1,4 +1,4 @@
--- Why one value is decided at an instance, and a ticket at one instance.
+-- The reasons why only one value is decided at an instance, and why a ticket is decided at only one instance.
 pub mod Paxos
 pub mod SixFacts
 pub mod Decisions

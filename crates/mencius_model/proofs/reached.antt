@@ -1,4 +1,4 @@
--- What holds of every reached trace.
+-- Facts that hold in every reached trace.
 pub mod Senders
 pub mod Suggesters
 pub mod FrontOwners

@@ -1,4 +1,4 @@
--- Each line of a reached trace had its right to come.
+-- Each line of a reached trace was allowed when it was added.
 pub mod LineRights
 pub mod EventRights
 pub mod EachLine

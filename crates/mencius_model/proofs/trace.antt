@@ -1,4 +1,4 @@
--- Lists, lines and answers.
+-- Lists, the lines of a trace, and the results of questions about a trace.
 pub mod Lists
 pub mod Prefixes
 pub mod NumberLists

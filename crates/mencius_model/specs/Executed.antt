@@ -1,4 +1,4 @@
--- What the servers executed: each one's history is a list of tickets.
+-- The history of each server, which is the list of tickets that it executed.
 use Rattle.std.specs.Prelude.{◌⊎◌, List}
 pub use mathlib.Core.List.{IsPrefix}
 use Rattle.std.specs.List.{filter_map}
@@ -8,10 +8,10 @@ use Rattle.mencius_model.specs.Trace.{Trace}
 use Rattle.mencius_model.specs.Instance.{learned_value}
 use Rattle.mencius_model.specs.Server.{done, ticket_of}
 
--- the tickets that p learned at the instances that it executed, in order
+-- The tickets that p learned at the instances that it executed, in order and without the no-ops.
 abbrev pub history : Trace → ServerId → List TicketNo
 history w p = filter_map (λ i. ticket_of (learned_value w p i)) (numbers_below (done w p))
 
--- one of two lists is a prefix of the other
+-- One of two lists is a prefix of the other.
 abbrev pub IsComparable : {A : Type 0} → List A → List A → Type 0
 IsComparable xs ys = IsPrefix xs ys ⊎ IsPrefix ys xs

@@ -1,4 +1,4 @@
--- No number in a trace exceeds its limit.
+-- The laws that no number in a reached trace exceeds its limit.
 use Rattle.std.specs.Prelude.{◌≡◌, ℕ, ◌<◌, ◌≤◌, true, Some, length, slice_get, IsTrue}
 use Rattle.mencius_base.specs.Limits.{greatest_round, instance_count, most_servers}
 use Rattle.mencius_base.specs.Numbers.{ServerId, Inst, MessageNo, TicketNo}
@@ -13,11 +13,11 @@ use Rattle.mencius_model.specs.Trace.{Trace, events, sent_messages, submitted_co
 use Rattle.mencius_model.specs.Instance.{learned_value}
 use Rattle.mencius_model.specs.Next.{IsReached}
 
--- the value's ticket, if it has one, is one of the first n
+-- If the value is a ticket, the ticket is less than n.
 abbrev pub IsTicketBelow : ℕ → Value → Type 0
 IsTicketBelow n x = (t : TicketNo) → x ≡ Ticket t → t < n
 
--- each ballot that the message names has at most the greatest round, and each ticket is one of the first n
+-- Each ballot that the message names has a round of at most `greatest_round`. Each ticket that it names is less than n.
 abbrev pub IsPayloadWithin : Membership → ℕ → Message → Type 0
 IsPayloadWithin m n (Suggest from inst ticket) = ticket < n
 IsPayloadWithin m n (Skip from first stop) = Unit {0}
@@ -29,26 +29,28 @@ IsPayloadWithin m n (Promise from to inst ballot vote) =
 IsPayloadWithin m n (Propose from inst ballot value) = (round m ballot ≤ greatest_round) × IsTicketBelow n value
 IsPayloadWithin m n (Learn from inst value) = IsTicketBelow n value
 
--- the numbers of accepted events and of sent messages are within their limits
+-- In every reached trace, the number of events and the number of sent messages are within their limits.
 abbrev pub CountsWithinLimits : Type 0
 CountsWithinLimits =
     (m : Membership) (w : Trace) → IsReached m w → (events w ≤ most_events) × (length (sent_messages w) ≤ most_messages)
 
--- the servers, instances, ballots and tickets that a sent message names are within their limits
+-- In every reached trace of at most seven servers, the servers, instances, ballots and tickets that a sent message
+-- names are within their limits.
 abbrev pub MessagesWithinLimits : Type 0
 MessagesWithinLimits =
     (m : Membership) (w : Trace) → m.count ≤ most_servers → IsReached m w
     → (k : MessageNo) (x : Message) → slice_get (sent_messages w) k ≡ Some x
     → IsTrue (is_within m x) × IsPayloadWithin m (length (submitted_commands w)) x
 
--- each instance with a learned value exists, and the ticket of the value was given to a submission
+-- In every reached trace of at most seven servers, each instance with a learned value exists, and the ticket of the
+-- value was given to a submission.
 abbrev pub LearnedWithinLimits : Type 0
 LearnedWithinLimits =
     (m : Membership) (w : Trace) → m.count ≤ most_servers → IsReached m w
     → (p : ServerId) (i : Inst) (z : Value) → learned_value w p i ≡ Some z
     → (i < instance_count) × IsTicketBelow (length (submitted_commands w)) z
 
--- `is_for` accepts each sent message at each member that it goes to
+-- In every reached trace of at most seven servers, `is_for` accepts each sent message for each member that it goes to.
 abbrev pub MessagesAddressed : Type 0
 MessagesAddressed =
     (m : Membership) (w : Trace) → m.count ≤ most_servers → IsReached m w

@@ -1,4 +1,4 @@
--- That the form by state is what the model says.
+-- The calls of a server, described by its state, have the effects of the model's events.
 pub mod ServerTrace
 pub mod SubmissionEvents
 pub mod SuspicionEvents

@@ -1,4 +1,4 @@
--- Intervals of skipped instances.
+-- Facts about intervals of skipped instances.
 pub mod RisingIntervals
 pub mod IntervalCounts
 pub mod NewIntervals

@@ -1,4 +1,4 @@
--- What a server keeps.
+-- The invariant of a server holds at all times.
 pub mod ServerInvariant
 pub mod InvariantKept
 pub mod InvariantByCall

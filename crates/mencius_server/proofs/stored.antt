@@ -1,4 +1,4 @@
--- What is stored of each instance.
+-- The stored slots and the skipped intervals contain the knowledge about each instance.
 pub mod StoredInstances
 pub mod PlaceTable
 pub mod SkipStored

@@ -1,4 +1,4 @@
--- What a suspicion does, and why it is refused.
+-- A suspicion starts the right first phases, or is refused for the right cause.
 pub mod FirstPhases
 pub mod FirstPhaseLoop
 pub mod IntervalLeaps

@@ -1,4 +1,4 @@
--- What is counted of the instances of each server.
+-- The tally of each server stays right.
 pub mod CountsBelow
 pub mod OneTally
 pub mod InstanceTallies

@@ -1,4 +1,4 @@
--- Which tickets wait, and where they were suggested.
+-- The notes about waiting tickets and suggested tickets stay right.
 pub mod WaitingTickets
 pub mod TicketMarks
 pub mod SuggestionCases

@@ -1,4 +1,5 @@
--- What the calls on the parts of a server need and promise, each by one word.
+-- The requirements and promises of calls on the parts of a server. Each definition combines several of them in one
+-- word.
 use Rattle.std.specs.Prelude.{◌≡◌, ℕ, ◌<◌, ◌≤◌, Bool, true, false, List, Option, Some, is_none, length, min}
 use Rattle.std.specs.List.{count_by}
 use Rattle.mencius_base.specs.Limits.{greatest_round, instance_count}
@@ -20,13 +21,14 @@ use Rattle.mencius_server.specs.declared.skipped_intervals.Interval.{Interval}
 
 -- ---- slots
 
--- a table of so many places, each a slot's, reaches up to a place
+-- The table `places` belongs to `slots` stored slots, and its length, which is passed as `count`, is at least `reach`.
 pub record HasPlaces (count : ℕ) (places : List (Option ℕ)) (slots reach : ℕ) : Type 0 where
   pub wide : reach ≤ count
   pub placed : IsSlotTable places slots
 
--- no-op may be learned at an interval of a server's instances: it has one and ends before another, and at each that
--- was skipped before something was learned
+-- The server may learn no-op at the interval `a`, which is not empty. The interval ends at an instance of its server,
+-- at most at the first one past 4,095. `rs` are skipped intervals of that server, and each slot that is stored in them
+-- has learned a value.
 pub record CanSkip (a : OwnedInterval) (rs : List Interval) (ss : List (Option SlotState)) : Type 0 where
   pub interval : IsOwnedInterval a
   pub some : a.first < a.stop
@@ -36,15 +38,17 @@ pub record CanSkip (a : OwnedInterval) (rs : List Interval) (ss : List (Option S
   pub learned_where_skipped : (j : Inst) (s : SlotState) → j < instance_count → owner a.members j ≡ a.server
       → is_in_any rs j ≡ true → stored_at ss j ≡ Some s → is_none s.learned ≡ false
 
--- ---- first phases: there is a further round where nothing was learned, and room for the Prepares
+-- ---- first phases
 
--- at a slot
+-- Member p may start a first phase at the slot `s`. If the slot is unlearned, a further round exists and the outbox has
+-- room for a Prepare.
 pub record CanBegin (m : Membership) (p : ServerId) (s : SlotState) (o : OutboxState) : Type 0 where
   pub member : p < m.count
   pub rounds : is_none s.learned ≡ true → next_round_of m s ≤ greatest_round
   pub room : is_none s.learned ≡ true → 0 < o.room
 
--- at an instance
+-- Member p may start a first phase at the slot of instance i. If an unlearned slot is stored there, a further round
+-- exists and the outbox has room for a Prepare.
 pub record CanBeginAt (m : Membership) (p : ServerId) (i : Inst) (ss : List (Option SlotState)) (o : OutboxState)
     : Type 0 where
   pub small : i < instance_count
@@ -53,7 +57,8 @@ pub record CanBeginAt (m : Membership) (p : ServerId) (i : Inst) (ss : List (Opt
       → next_round_of m s ≤ greatest_round
   pub room : is_unlearned (stored_at ss i) ≡ true → 0 < o.room
 
--- at the slots that are stored at an interval; the intervals of learned instances have none of them
+-- Member p may start first phases at all unlearned slots that are stored in the interval `a`. Each of them has a
+-- further round, and the outbox has room for all Prepares. The learned intervals `ends` contain none of these slots.
 pub record CanBeginAll (a : OwnedInterval) (p : ServerId) (ss : List (Option SlotState)) (ends : List Inst)
     (o : OutboxState) : Type 0 where
   pub interval : IsOwnedInterval a
@@ -64,7 +69,8 @@ pub record CanBeginAll (a : OwnedInterval) (p : ServerId) (ss : List (Option Slo
   pub room : count_by (is_covered_slot a ss) (numbers_below a.stop) ≤ o.room
   pub learned_intervals : AreLearnedIntervals a.members (is_covered_slot a ss) ends
 
--- at an interval, where all slots are stored
+-- Member p may start first phases at all unlearned instances of the interval `a`. Each of them has a stored slot and a
+-- further round, and the outbox has room for all Prepares.
 pub record CanBeginOpen (s : InstancesState) (a : OwnedInterval) (p : ServerId) (o : OutboxState) : Type 0 where
   pub interval : IsOwnedInterval a
   pub members : a.members ≡ s.members
@@ -75,7 +81,8 @@ pub record CanBeginOpen (s : InstancesState) (a : OwnedInterval) (p : ServerId) 
       → next_round_of s.members (instance_slot s j) ≤ greatest_round
   pub room : count_by (is_open_in s a) (numbers_below a.stop) ≤ o.room
 
--- at the instances of q that a suspicion of such a reach covers, of which there are at most so many
+-- Member p may start first phases at the unlearned instances of member q below `reach`. There are at most `most` of
+-- them, each has a further round, and the outbox has room for all Prepares.
 pub record CanBeginCovered (s : InstancesState) (p q : ServerId) (reach : Inst) (most : ℕ) (o : OutboxState)
     : Type 0 where
   pub id : p < s.members.count
@@ -87,12 +94,13 @@ pub record CanBeginCovered (s : InstancesState) (p q : ServerId) (reach : Inst) 
 
 -- ---- counts and searches
 
--- the skipped intervals are in order, and nothing is open that was skipped
+-- `rs` has the skipped intervals of each server, and every instance in them is learned.
 pub record AreSkipsLearned (m : Membership) (slots : List (Option SlotState)) (rs : List (List Interval)) : Type 0 where
   pub sorted : IsSorted m rs
   pub learned_where_skipped : LearnedWhereSkipped m slots rs
 
--- the least open instance of the owner of a place, from there on, or none before the stop is
+-- Instance i has the same owner as the place `from`. None of this owner's instances from `from` up to, but not
+-- including, i is open. If i is below `stop`, i is open.
 pub record IsFirstOpen (m : Membership) (opens : Inst → Bool) (from stop i : Inst) : Type 0 where
   pub owned : owner m i ≡ owner m from
   pub learned : (j : Inst) → from ≤ j → j < i → owner m j ≡ owner m from → j < instance_count → opens j ≡ false
@@ -100,13 +108,14 @@ pub record IsFirstOpen (m : Membership) (opens : Inst → Bool) (from stop i : I
 
 -- ---- tickets
 
--- the instances are of these members, of whom p is one
+-- `m` is the membership of the instances, and p is one of its members.
 pub record HasMember (s : InstancesState) (m : Membership) (p : ServerId) : Type 0 where
   pub member : p < m.count
   pub same : s.members ≡ m
 
--- it may be noted that a ticket is suggested from a front on: all that were suggested before it are below the next one,
--- and there is room for the marks
+-- Member p may note that it suggests the ticket t at or above its front. Each ticket that p suggested below the front
+-- is less than `next_ticket`. If t is less than `next_ticket` too, `suggested_again` has an entry for each instance
+-- below the front. At or above the front, `suggested_again` has no entry.
 pub record CanPassOn (n : NotesState) (s : InstancesState) (m : Membership) (p : ServerId) (front : Inst) (t : TicketNo)
     : Type 0 where
   pub own : HasMember s m p

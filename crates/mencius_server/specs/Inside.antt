@@ -1,4 +1,4 @@
--- What the fields of a server keep beside what callers see.
+-- The fact that a server maintains over its fields, in addition to the facts that callers see.
 use Rattle.std.specs.Prelude.{◌≡◌, ◌<◌, ◌≤◌, false, None, Some, length, slice_index_or}
 use Rattle.std.specs.List.{list_any}
 use Rattle.mencius_base.specs.Members.{Membership, instances}
@@ -8,9 +8,10 @@ use Rattle.mencius_server.specs.Notes.{NotesState}
 use Rattle.mencius_server.specs.State.{IsServer, ServerState}
 use Rattle.mencius_base.specs.Limits.{instance_count}
 
--- there is a slot for each instance, as the members have it; below a place no ticket waits, and below another
--- no own instance is free; a number is above every suggested ticket; a mark tells whether a ticket was suggested
--- further on
+-- The fields of a server fit together. There is a slot for each instance, and the instances have the server's
+-- membership. The notes are right. No own ticket waits below `lost_from`, no own instance below `free_from` is free,
+-- and each suggested ticket is less than `next_ticket`. The mark of an own instance says whether its ticket was
+-- suggested again at a later instance. Instances at or above the front have no mark.
 pub record IsServerInside (s : ServerState) (m : Membership) (n : NotesState) : Type 0 where
   pub full : length s.slots ≡ instance_count
   pub members : m ≡ s.members

@@ -1,4 +1,4 @@
--- What a server knows of the instances, as it keeps it: slots that are stored, and intervals of skipped instances.
+-- A server's knowledge about the instances as it is stored, in slots and in intervals of skipped instances.
 use Rattle.std.specs.Prelude.{◌≡◌, ℕ, ◌<◌, ◌≤◌, Bool, true, false, List, [], Option, Some, if◌then◌else◌, ◌&&◌, ◌||◌, is_none, is_some, length, map, not, slice_index_or, slice_set, unwrap_or}
 use Rattle.std.specs.List.{count_by, filter, find}
 use Rattle.mencius_base.specs.declared.message.Message.{Message}
@@ -16,28 +16,29 @@ use Rattle.mencius_server.specs.declared.owned_interval.OwnedInterval.{OwnedInte
 use Rattle.mencius_base.specs.Limits.{instance_count}
 use Rattle.mencius_base.specs.Numbers.{Inst, ServerId, TicketNo}
 
--- for each instance, from 0, what is known of it, and whether a slot is stored there
+-- The knowledge about all instances. For each instance, from 0, it has a slot, and whether this slot is stored.
 pub record InstancesState : Type 0 where
   pub members : Membership
   pub slots : List SlotState
   pub is_stored : List Bool
 
--- what is known of an instance
+-- The slot with the knowledge about instance i. It is a new slot if the list has no entry for i.
 abbrev pub instance_slot : InstancesState → Inst → SlotState
 instance_slot s i = slice_index_or s.slots i (new_slot s.members)
 
--- a slot is stored at an instance
+-- Whether a slot is stored at instance i.
 abbrev pub has_slot : InstancesState → Inst → Bool
 has_slot s i = slice_index_or s.is_stored i false
 
+-- The instances after the slot x is stored at instance i.
 abbrev pub with_instance_slot : InstancesState → Inst → SlotState → InstancesState
 with_instance_slot s i x = record s { slots = slice_set s.slots i x; is_stored = slice_set s.is_stored i true }
 
--- a slot is stored, and nothing else is new
+-- The instances after a slot is stored at instance i, with the same knowledge as before.
 abbrev pub with_stored : InstancesState → Inst → InstancesState
 with_stored s i = record s { is_stored = slice_set s.is_stored i true }
 
--- nothing is known of any instance, and no slot is stored
+-- The instances if the server knows nothing about any of them, and no slot is stored.
 abbrev pub new_instances : Membership → InstancesState
 new_instances m = record {
   members = m;
@@ -47,17 +48,21 @@ new_instances m = record {
 
 -- ---- slots and intervals
 
--- what is known of an instance where no slot is stored
+-- The knowledge about an instance that has no stored slot. If the instance was skipped, no-op is learned there.
+-- Otherwise, nothing is known about it.
 abbrev pub slot_by_skip : Membership → Bool → SlotState
 slot_by_skip m is_skipped = if is_skipped then after_learn (new_slot m) Noop else new_slot m
 
--- the owner was heard to skip the instance
+-- Whether the owner of instance j was heard to skip it. The list `rs` has the skipped intervals of each server.
 abbrev pub is_in_skipped : Membership → List (List Interval) → Inst → Bool
 is_in_skipped m rs j = is_in_any (slice_index_or rs (owner m j) []) j
 
+-- The knowledge about instance j. It is the slot that is stored there, or the knowledge from the skipped intervals if
+-- no slot is stored.
 abbrev pub instance_slot_in : Membership → List (Option SlotState) → List (List Interval) → Inst → SlotState
 instance_slot_in m slots rs j = unwrap_or (stored_at slots j) (slot_by_skip m (is_in_skipped m rs j))
 
+-- The knowledge about all instances that the stored slots and the skipped intervals contain.
 abbrev pub instances_in : Membership → List (Option SlotState) → List (List Interval) → InstancesState
 instances_in m slots rs = record {
   members = m;
@@ -65,12 +70,13 @@ instances_in m slots rs = record {
   is_stored = map (λ j. is_some (stored_at slots j)) instances;
 }
 
--- there are intervals for each server, which are of its skipped instances
+-- `rs` has one list of skipped intervals for each server.
 pub record IsSorted (m : Membership) (rs : List (List Interval)) : Type 0 where
   pub count : length rs ≡ m.count
   pub intervals : (q : ServerId) → q < m.count → AreSkippedIntervals m q (slice_index_or rs q [])
 
--- a slot that is stored at a skipped instance knows it, and a place is the least instance that is not learned
+-- The stored slots fit the skipped intervals. Each slot that is stored at a skipped instance has learned a value. `low`
+-- is the lowest unlearned instance, or 4,096 if every instance is learned.
 pub record AreSlotsAndSkips (m : Membership) (slots : List (Option SlotState)) (rs : List (List Interval))
     (low : Inst) : Type 0 where
   pub sorted : IsSorted m rs
@@ -83,68 +89,76 @@ pub record AreSlotsAndSkips (m : Membership) (slots : List (Option SlotState)) (
 
 -- ---- a suggestion
 
+-- The instances after the server suggests the ticket t at instance i.
 abbrev pub instances_after_suggest : InstancesState → Inst → TicketNo → InstancesState
 instances_after_suggest s i t = with_instance_slot s i (record (instance_slot s i) { proposal = Some (Ticket t) })
 
 -- ---- a Skip
 
--- no further slot is stored
+-- The instances after no-op is learned at q's instances from `first` up to, but not including, `stop`. No slot is
+-- added.
 abbrev pub instances_after_skip : InstancesState → ServerId → Inst → Inst → InstancesState
 instances_after_skip s q first stop =
     record s { slots = map (λ j. slot_after_skip s.members q first stop j (instance_slot s j)) instances }
 
--- an instance that a Skip gives up was not learned
+-- Whether a Skip of the interval `a` is news at instance j. Then j belongs to `a`, lies in no skipped interval, and has
+-- no stored slot that has learned a value.
 abbrev pub is_newly_skipped_in : OwnedInterval → List Interval → List (Option SlotState) → Inst → Bool
 is_newly_skipped_in a rs slots j = is_in a j && (not (is_in_any rs j) && not (is_learned (stored_at slots j)))
 
--- at how many instances a Skip is news
+-- The number of unlearned instances that q's Skip from `first` to `stop` gives up.
 abbrev pub newly_skipped_stored : InstancesState → ServerId → Inst → Inst → ℕ
 newly_skipped_stored s q first stop =
     count_by (λ j. is_newly_skipped_slot s.members q first stop j (instance_slot s j)) instances
 
 -- ---- a suspicion
 
--- nothing was learned at an instance of q
+-- Whether q owns instance j and j is unlearned.
 abbrev pub is_open_stored : InstancesState → ServerId → Inst → Bool
 is_open_stored s q j = is_open_from s.members q j (instance_slot s j).learned
 
--- the place before which a suspicion of q from a front covers open instances
+-- The place below which a suspicion of q covers open instances, for a server with this front. It is 0 if the suspicion
+-- covers none.
 abbrev pub reach_stored : InstancesState → ServerId → Inst → Inst
 reach_stored s q front = stop_of (reach_from s.members front (find (is_open_stored s q) instances))
 
--- nothing was learned at an instance of q so far
+-- Whether q owns instance j, and j is below `reach` and unlearned.
 abbrev pub is_covered_stored : InstancesState → ServerId → Inst → Inst → Bool
 is_covered_stored s q reach j = is_covered_in s.members q reach j (instance_slot s j)
 
--- the same of an instance of an interval
+-- Whether instance j belongs to the interval `a` and is unlearned.
 abbrev pub is_open_in : InstancesState → OwnedInterval → Inst → Bool
 is_open_in s a j = is_in a j && is_none (instance_slot s j).learned
 
--- slots are stored at all of them
+-- The instances after slots are stored at all unlearned instances of the interval `a`.
 abbrev pub with_open_stored : InstancesState → OwnedInterval → InstancesState
 with_open_stored s a = record s { is_stored = map (λ j. has_slot s j || is_open_in s a j) instances }
 
--- a first phase is started at all of them
+-- The instances after p starts first phases at all unlearned instances of the interval `a`.
 abbrev pub with_first_phases : InstancesState → ServerId → OwnedInterval → InstancesState
 with_first_phases s p a = record s {
   slots = map (λ j. if is_open_in s a j then with_next_phase s.members p (instance_slot s j) else instance_slot s j)
       instances;
 }
 
+-- The Prepare of p's next first phase at instance j.
 abbrev pub prepare_stored : InstancesState → ServerId → Inst → Message
 prepare_stored s p j = next_prepare s.members p j (instance_slot s j)
 
+-- The Prepares of p's next first phases at the unlearned instances of the interval `a`, in rising order of instances.
 abbrev pub prepares_in : InstancesState → ServerId → OwnedInterval → List Message
 prepares_in s p a = map (prepare_stored s p) (filter (is_open_in s a) (numbers_below a.stop))
 
--- there is no further round at an instance
+-- Whether instance j has no further round.
 abbrev pub is_spent_stored : InstancesState → Inst → Bool
 is_spent_stored s j = is_spent s.members (instance_slot s j)
 
+-- The Prepares of p's next first phases at q's unlearned instances below `reach`, in rising order of instances.
 abbrev pub prepares_stored : InstancesState → ServerId → ServerId → Inst → List Message
 prepares_stored s p q reach = map (prepare_stored s p) (filter (is_covered_stored s q reach) instances)
 
--- slots are stored where first phases are started, and nowhere else
+-- The instances after p starts first phases at q's unlearned instances below `reach`. Slots are added at these
+-- instances only.
 abbrev pub instances_after_suspect : InstancesState → ServerId → ServerId → Inst → InstancesState
 instances_after_suspect s p q reach = record s {
   slots = map (λ j. slot_after_suspect s.members p q reach j (instance_slot s j)) instances;

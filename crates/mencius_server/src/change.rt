@@ -5,10 +5,10 @@ ghost use Rattle.std.specs.Prelude.{◌≡◌};
 use coord_paxos::Slot;
 use mencius_base::{Ballot, Value, Vote};
 
-/// What a message changes in one slot.
+/// A change that a message makes to one slot.
 ///
-/// A slot is asked first what it would answer, then room is reserved for the messages, and then it is changed where
-/// it is stored.
+/// A server first asks the slot for its answer, then reserves room for the messages, and then changes the slot in
+/// place.
 #[derive(Clone, Copy, Debug)]
 pub(crate) enum Change {
     Prepare(Ballot),
@@ -19,7 +19,7 @@ pub(crate) enum Change {
 }
 
 impl Change {
-    /// Makes the change at a slot.
+    /// Applies the change to a slot.
     pub(crate) fn make(self, slot: &mut Slot)
         requires { IsSaid slot.old.members self }
         ensures { slot.new ≡ slot_after_change slot.old self }

@@ -1,4 +1,4 @@
-//! What a server does on each message, Rule 2 among it.
+//! The effect of each message on a server, including Rule 2.
 ghost use Rattle.mencius_base.specs.Limits.{instance_count};
 ghost use Rattle.mencius_base.specs.Message.{is_for};
 ghost use Rattle.mencius_base.specs.Outbox.{outbox_full, IsPushed};
@@ -14,34 +14,35 @@ use coord_paxos::Answer;
 use mencius_base::{Ballot, Message, NoMemory, Outbox, Refusal, Value, Vote};
 
 impl Server {
-    /// Hears a message, and answers how many instances were learned (Mao, Junqueira and Marzullo, OSDI
-    /// 2008, section 4).
+    /// Processes a delivered message by the rules of Mao, Junqueira and Marzullo (OSDI 2008, section 4). Returns the
+    /// number of instances that this server learned from the message.
     ///
-    /// - Suggest: where its instance is above the front, the own instances from the front up to it are
-    ///   given up by one Skip, and the front moves past it (Rule 2). It is accepted unless another
-    ///   ballot was promised there.
-    /// - Skip: no-op is learned at once at each instance of the skipper in the interval.
-    /// - Prepare: a learned value is answered by Learn; else a ballot above the promised one is
-    ///   promised, with the vote.
-    /// - Promise: once a majority promised the ballot that this server tries, it proposes the value of
-    ///   the greatest vote that was reported, or no-op, once.
-    /// - Propose: it is accepted unless a greater ballot was promised.
-    /// - Accepted: once a majority accepted at the ballot that this server tries, it learns the value
-    ///   that it proposed and tells everybody.
-    /// - Learn: the value is learned, unless one was.
+    /// - On a Suggest, the server accepts unless it has promised another ballot there. If the instance is above its
+    ///   front, the server first gives up its own instances from the front up to that instance with one Skip. Its front
+    ///   then moves past the instance (Rule 2).
+    /// - On a Skip, the server learns no-op at once at each unlearned instance of the skipper in the interval.
+    /// - On a Prepare, the server sends Learn if it has learned the instance. Otherwise, if the ballot is above its
+    ///   promise, it promises the ballot and reports its vote.
+    /// - On a Promise, the server proposes a value once a majority has promised the ballot that it tries. The value is
+    ///   that of the greatest vote reported, or no-op if no vote was reported. It proposes only once at a ballot, and
+    ///   only if it has not learned the instance.
+    /// - On a Propose, the server accepts unless it has promised a greater ballot.
+    /// - On an Accepted, the server learns the value that it proposed once a majority has accepted the ballot that it
+    ///   tries, and sends Learn to all servers. It does so only if it has not learned the instance.
+    /// - On a Learn, the server learns the value unless it has already learned one.
     ///
-    /// The message is one that `Message::is_for` finds to be for this server. It may be heard any
-    /// number of times.
+    /// `Message::is_for` must accept the message for this server. The server may hear a message any number of times.
     ///
     /// # Errors
     ///
-    /// `MessagesFull` where `out` can't take the messages that are sent, then `NoMemory`.
-    // Always inlined: its caller has just copied the message out of a list.
+    /// `MessagesFull` if `out` has no space for the messages that are sent, otherwise `NoMemory` if an allocation
+    /// fails.
+    // Always inlined, because its caller has just copied the message out of a list.
     #[inline(always)]
     pub fn hear(&mut self, message: &Message, out: &mut Outbox) -> Result<u32, Refusal>
         requires { IsTrue (is_for self.old.members self.old.id message.now) }
-        // What it does by the server's own state, whatever was heard before; `laws::events` says
-        // that in every reached trace it is the delivery.
+        // The clauses state the effect in terms of the server's own state, for all messages heard before.
+        // `laws::events` says that the call is the delivery at each reached trace.
         ensures heard { IfOk result (λ n. IsHeard self.old self.new out.old out.new message.now n) }
         ensures refusal { IsRefusedFor
             (outbox_full out.old (length (sent_on self.old message.now))) result }
@@ -188,7 +189,7 @@ impl Server {
         if ballot != self.instances.trying(inst) {
             return Ok(0);
         }
-        // One copy is asked about, and the other is counted.
+        // The answer uses one copy of the vote, and the change counts the other.
         let reported = vote;
         let value = self.instances.promise_answer(inst, from, ballot, vote);
         out.reserve(u32::from(value.is_some()))?;
@@ -270,7 +271,7 @@ impl Server {
         }
         let value = self.instances.acceptance_answer(inst, from, ballot);
         if value.is_none() && self.instances.has_accepter(inst, from) {
-            // It was counted before, and decides nothing.
+            // This acceptance was counted before, and decides nothing.
             return Ok(0);
         }
         out.reserve(u32::from(value.is_some()))?;
@@ -288,8 +289,8 @@ impl Server {
         }
     }
 
-    // Gives up the own instances from the front up to one past an instance by one Skip, for which there is room
-    // (Rule 2).
+    // Gives up the own instances from the front up to and including `inst` with one Skip, and moves the front past them
+    // (Rule 2). The outbox has room for the Skip.
     fn push_own_skip(&mut self, inst: u32, out: &mut Outbox)
         requires small { inst < instance_count }
         requires ahead { self.old.front < inst }

@@ -1,4 +1,4 @@
-//! What a server knows of an instance, in short.
+//! A summary of a server's knowledge about one instance.
 ghost use Rattle.mencius_server.specs.Glances.{glance_of};
 ghost use Rattle.std.specs.List.{count_by};
 ghost use Rattle.std.specs.Prelude.{◌≡◌};
@@ -6,20 +6,20 @@ ghost use Rattle.std.specs.Prelude.{◌≡◌};
 use coord_paxos::Slot;
 use mencius_base::{Ballot, Value};
 
-/// What a server knows of an instance, with counts in place of sets.
+/// A server's knowledge about one instance, with counts in place of sets.
 #[derive(Clone, Copy, Debug, PartialEq, Eq)]
 pub struct Glance {
-    /// The greatest ballot that was promised or accepted, 0 if there is none.
+    /// The greatest ballot that the server promised or accepted, or 0 if it did neither.
     pub promised: Ballot,
-    /// What was learned.
+    /// The value that the server learned, if any.
     pub learned: Option<Value>,
-    /// The greatest ballot that is tried, 0 if there is none.
+    /// The greatest ballot that the server tries, or 0 if it tried none.
     pub trying: Ballot,
-    /// What the server proposed at the ballot that it tries.
+    /// The value that the server proposed at the ballot that it tries, if any.
     pub proposal: Option<Value>,
-    /// Of how many servers it heard a promise of that ballot.
+    /// The number of servers whose promise of the tried ballot it heard.
     pub promise_count: usize,
-    /// Of how many it heard an acceptance at that ballot.
+    /// The number of servers whose acceptance at the tried ballot it heard.
     pub acceptance_count: usize,
 }
 

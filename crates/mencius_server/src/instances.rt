@@ -1,4 +1,4 @@
-//! What a server knows of all instances.
+//! A server's knowledge about all instances.
 ghost use Rattle.mencius_base.specs.Limits.{instance_count};
 ghost use Rattle.coord_paxos.specs.Slot.{acceptance_answer, prepare_answer, promise_answer};
 ghost use Rattle.mencius_server.specs.Changes.{IsSaid, slot_after_change};
@@ -22,15 +22,15 @@ use std::marker::Model;
 
 mod suspicion;
 
-/// What is known of each instance, and what is kept of that, so that it need not be looked for again.
+/// A server's knowledge about each instance, with bounds and counts that save repeated searches.
 #[derive(Drop)]
 pub(crate) struct Instances {
     stored: StoredInstances,
-    // The least instance that is not learned.
+    // The lowest unlearned instance, or 4,096 if every instance is learned.
     learned_below: u32,
-    // What suspicions would revoke, as far as it was asked.
+    // For each server, counts of the instances that a suspicion would revoke, up to the reach of earlier suspicions.
     tallies: Tallies,
-    // Intervals of learned instances, as far as suspicions passed them.
+    // Intervals of learned instances that earlier suspicions passed.
     learned_intervals: LearnedIntervals,
 }
 
@@ -47,7 +47,7 @@ impl Model for Instances {
 }
 
 impl Instances {
-    /// Nothing is known of any instance.
+    /// Makes the knowledge of a server that knows nothing about any instance.
     pub(crate) fn new(alloc: Global, members: Members) -> Result<Instances, NoMemory>
         ensures ok { IfOk result (λ s. s ≡ new_instances members) }
     {
@@ -65,7 +65,7 @@ impl Instances {
         })
     }
 
-    /// The value that was learned at an instance, if any.
+    /// Returns the value that the server learned at an instance, if any.
     pub(crate) fn learned(&self, inst: u32) -> Option<Value>
         requires { inst < instance_count }
         ensures { result ≡ (instance_slot self.now inst).learned }
@@ -73,7 +73,7 @@ impl Instances {
         self.stored.learned(inst)
     }
 
-    /// What the server proposed at an instance, if anything.
+    /// Returns the value that the server proposed at an instance, if any.
     pub(crate) fn proposal(&self, inst: u32) -> Option<Value>
         requires { inst < instance_count }
         ensures { result ≡ (instance_slot self.now inst).proposal }
@@ -84,7 +84,7 @@ impl Instances {
         }
     }
 
-    /// The greatest ballot that was promised or accepted at an instance.
+    /// Returns the greatest ballot that the server promised or accepted at an instance.
     pub(crate) fn promised(&self, inst: u32) -> Ballot
         requires { inst < instance_count }
         ensures { result ≡ (instance_slot self.now inst).promised }
@@ -95,7 +95,7 @@ impl Instances {
         }
     }
 
-    /// The greatest ballot that the server tries at an instance.
+    /// Returns the greatest ballot that the server tries at an instance.
     pub(crate) fn trying(&self, inst: u32) -> Ballot
         requires { inst < instance_count }
         ensures { result ≡ (instance_slot self.now inst).trying }
@@ -106,7 +106,7 @@ impl Instances {
         }
     }
 
-    /// What is known of an instance, in short.
+    /// Returns a summary of the knowledge about an instance.
     pub(crate) fn glance(&self, inst: u32) -> Glance
         requires { inst < instance_count }
         ensures { result ≡ glance_of (instance_slot self.now inst) }
@@ -117,7 +117,7 @@ impl Instances {
         }
     }
 
-    /// What a Prepare is answered at an instance.
+    /// Returns the answer to a Prepare at an instance.
     pub(crate) fn prepare_answer(&self, inst: u32, ballot: Ballot) -> Answer
         requires { inst < instance_count }
         ensures { result ≡ prepare_answer (instance_slot self.now inst) ballot }
@@ -128,7 +128,7 @@ impl Instances {
         }
     }
 
-    /// What is to be proposed at an instance once a promise is counted, if anything.
+    /// Returns the value that is due to be proposed at an instance once a promise is counted, if any.
     pub(crate) fn promise_answer(
         &self,
         inst: u32,
@@ -149,7 +149,7 @@ impl Instances {
         }
     }
 
-    /// What is learned at an instance once an acceptance is counted, if anything.
+    /// Returns the value that is learned at an instance once an acceptance is counted, if any.
     pub(crate) fn acceptance_answer(&self, inst: u32, from: u8, ballot: Ballot) -> Option<Value>
         requires small { inst < instance_count }
         requires member { from < (instance_slot self.now inst).members.count }
@@ -164,7 +164,7 @@ impl Instances {
         }
     }
 
-    /// Whether a server's acceptance at the ballot that is tried was counted at an instance.
+    /// Returns whether a server's acceptance at the tried ballot was counted at an instance.
     pub(crate) fn has_accepter(&self, inst: u32, from: u8) -> bool
         requires { inst < instance_count }
         ensures { result ≡ true → slice_index_or (instance_slot self.now inst).accepts from false
@@ -179,7 +179,8 @@ impl Instances {
         }
     }
 
-    /// Changes an instance's slot where it is stored. A new one is stored where none was, which alone takes memory.
+    /// Changes the slot of an instance in place. If the instance has no slot, the call first stores a new one. Only
+    /// this step allocates.
     pub(crate) fn change(&mut self, inst: u32, change: Change) -> Result<(), NoMemory>
         requires small { inst < instance_count }
         requires said { IsSaid (instance_slot self.old inst).members change }
@@ -196,7 +197,7 @@ impl Instances {
         Ok(())
     }
 
-    /// Notes the server's own suggestion at an instance where it made none.
+    /// Records the server's own suggestion at an instance where it has proposed nothing.
     pub(crate) fn suggest(&mut self, inst: u32, ticket: u32) -> Result<(), NoMemory>
         requires small { inst < instance_count }
         requires unsaid { (instance_slot self.old inst).proposal ≡ None }
@@ -209,7 +210,7 @@ impl Instances {
         Ok(())
     }
 
-    // Stores a slot at an instance, if none is stored there.
+    // Stores a slot at an instance that has none, and otherwise changes nothing.
     fn store(&mut self, inst: u32) -> Result<(), NoMemory>
         requires { inst < instance_count }
         ensures ok { OnOk result (self.new ≡ with_stored self.old inst) }
@@ -226,11 +227,12 @@ impl Instances {
         Ok(())
     }
 
-    /// Learns no-op at a server's instances in an interval, and answers at how many nothing was learned before.
+    /// Learns no-op at the instances of server `from` in an interval. Returns the number of these instances that were
+    /// unlearned before.
     ///
-    /// An interval that was skipped before costs a search among the intervals. Else it takes about the time of the
-    /// slots that may be stored in the interval, and, where the server was suspected, of those of its instances up to
-    /// the reach then that were in no skipped interval.
+    /// If the interval was skipped before, the call only searches the skipped intervals. Otherwise, its time is about
+    /// the number of slots that may be stored in the interval. If the server was suspected before, the call also visits
+    /// the server's instances in the interval below the reach of that suspicion, except those that were skipped before.
     pub(crate) fn skip(&mut self, from: u8, first: u32, stop: u32) -> Result<u32, NoMemory>
         requires member { from < self.old.members.count }
         requires small { first < instance_count }
@@ -261,7 +263,7 @@ impl Instances {
         Ok(learned)
     }
 
-    /// How many slots are stored, and how many intervals there are.
+    /// Returns the number of stored slots and the number of skipped intervals.
     pub(crate) fn kept(&self) -> (u32, u32)
         ensures { result.0 ≡ count_by (λ x. x) self.now.is_stored }
     {

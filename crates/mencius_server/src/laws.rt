@@ -1,31 +1,32 @@
-//! Laws of a server's calls. Their functions do nothing: what they ensure is what counts.
+//! Laws of a server's calls. Their functions do nothing when they run, and only their contracts matter.
 //!
-//! A server's calls are stated over its own state, whatever it heard. The laws say that in every
-//! trace that can come about, and by which the server's state is what the definitions say, a call
-//! is one event of that trace.
+//! The contracts of a server's calls are about the server's own state, for all messages that it may have heard. The
+//! laws link these calls to the trace. If the server's state is the state that the definitions give at a reached trace,
+//! a call is one event of that trace.
 ghost use Rattle.mencius_server.specs.Laws.{ExecutionLeavesAll, FrontAnswers, HearAddresses, HearIsEvent, HearLearnsAsEvent, LearnedAnswers, LeavesOthers, LossLeavesAll, RetryAddresses, RetryIsEvent, SubmitAddresses, SubmitIsEvent, SuspectAddresses, SuspectIsEvent, WaitingAnswers};
 
 pub use mencius_model::laws::{one_proposal, one_suggestion};
 
-/// A server whose state is that of a reached trace answers by that trace.
+/// If the server's state is its state at a reached trace, its calls return the values of that trace.
 ///
-/// [`front`](crate::Server::front) is then the server's next own instance by all that it sent,
-/// [`learned`](crate::Server::learned) the value of the first line that says what it learned there,
-/// and [`waiting`](crate::Server::waiting) the first ticket that waits by its lines.
+/// - [`front`](crate::Server::front) returns the server's next own instance after all that it sent.
+/// - [`learned`](crate::Server::learned) returns the value in the server's first line about learning the instance.
+/// - [`waiting`](crate::Server::waiting) returns the first ticket that waits according to the server's lines.
 pub fn answers()
     ensures front { FrontAnswers }
     ensures learned { LearnedAnswers }
     ensures waiting { WaitingAnswers }
 {}
 
-/// At a server whose state is that of a reached trace, a call is an event of that trace: it puts
-/// exactly the event's messages on the outbox, leaves the server that the longer trace says, and
-/// is refused for the first cause of the event's that holds.
+/// If the server's state is its state at a reached trace, a call is an event of that trace.
 ///
-/// [`submit`](crate::Server::submit) of the next ticket is the submission, whatever the command;
-/// [`hear`](crate::Server::hear) of a message that was sent is its delivery, and learns as many
-/// instances; [`suspect`](crate::Server::suspect) by a member is the suspicion, and
-/// [`retry`](crate::Server::retry) the retry.
+/// The call puts exactly the messages of the event on the outbox. It leaves the server in its state at the longer
+/// trace. It is refused for the first cause of the event that holds.
+///
+/// - [`submit`](crate::Server::submit) of the next ticket is the submission, for any command.
+/// - [`hear`](crate::Server::hear) of a message that was sent is its delivery. Both teach the same number of instances.
+/// - [`suspect`](crate::Server::suspect) by a member is the suspicion.
+/// - [`retry`](crate::Server::retry) is the retry.
 pub fn events()
     ensures submission { SubmitIsEvent }
     ensures delivery { HearIsEvent }
@@ -34,11 +35,12 @@ pub fn events()
     ensures retry { RetryIsEvent }
 {}
 
-/// Whatever a server heard, [`hear`](crate::Server::hear) takes each message that it sends at every
-/// server that the message goes to. So a network of one's own may carry them.
+/// Each message that a server sends may be passed to [`hear`](crate::Server::hear) of every server that the message
+/// goes to. This is true for all messages that the sender may have heard. So you can carry the messages over a network
+/// of your own.
 ///
-/// The server's number is below the number of the members, of which there are at most seven: so it is
-/// with every [`Server`](crate::Server).
+/// The laws require that the server's number is below the number of members. The law of deliveries also requires at
+/// most seven members. Both are true for every [`Server`](crate::Server).
 pub fn addresses()
     ensures submission { SubmitAddresses }
     ensures delivery { HearAddresses }
@@ -46,11 +48,11 @@ pub fn addresses()
     ensures retry { RetryAddresses }
 {}
 
-/// An event of one server leaves every other server what it was, and a loss or an execution leaves
-/// all of them, where the trace can come about and the event is accepted.
+/// An accepted event at a reached trace leaves all servers as they were, except the server of the event. An accepted
+/// loss or execution leaves all servers as they were.
 ///
-/// A simulator with a network of its own needs this: after a call of one [`Server`](crate::Server)
-/// it may keep all others as they are, and they are at the longer trace too.
+/// A simulator with its own network needs these laws. After a call of one [`Server`](crate::Server), it may keep all
+/// other servers unchanged. They are then at the longer trace too.
 pub fn isolation()
     ensures others { LeavesOthers }
     ensures loss { LossLeavesAll }

@@ -1,4 +1,4 @@
-//! Intervals of learned instances, over which suspicions leap.
+//! Intervals of learned instances. Suspicions leap over them.
 ghost use Rattle.mencius_base.specs.Limits.{greatest_front, instance_count};
 ghost use Rattle.mencius_server.specs.LearnedIntervals.{interval_end};
 ghost use Rattle.std.specs.Prelude.{◌≡◌, ℕ, ◌<◌, ◌≤◌, ◌==◌, IfOk, if◌then◌else◌, nat_lt};
@@ -7,13 +7,13 @@ use mencius_base::{INSTANCES, NoMemory};
 use std::alloc::Global;
 use std::marker::Model;
 
-/// For each instance, where an interval of learned instances of its server ends that begins there, as far as a
-/// suspicion came by.
+/// For each instance, the end of an interval that begins there. All instances of the same owner in that interval are
+/// learned. A suspicion records an interval when it passes it.
 ///
-/// What is learned stays learned, so that no interval has to be taken back.
+/// Learned instances stay learned, so no interval is ever removed.
 #[derive(Drop)]
 pub(crate) struct LearnedIntervals {
-    // 0 where no interval is known.
+    // 0 if no interval is known to begin at the instance.
     ends: Vec<u16>,
 }
 
@@ -29,7 +29,7 @@ impl Model for LearnedIntervals {
 }
 
 impl LearnedIntervals {
-    /// No interval is known.
+    /// Makes a table without known intervals.
     pub(crate) fn new(alloc: Global) -> Result<LearnedIntervals, NoMemory>
         ensures { IfOk result (λ r. (i : ℕ) → interval_end r i ≡ 0) }
     {
@@ -38,8 +38,8 @@ impl LearnedIntervals {
         })
     }
 
-    /// The place to look at behind a learned instance: the end of the interval that is known to begin there, or else
-    /// the next instance.
+    /// Returns the place to look at after a learned instance. This is the end of the interval that is known to begin at
+    /// the instance, or `next` if no such interval is known.
     pub(crate) fn past(&self, inst: u32, next: u32) -> u32
         requires { inst < instance_count }
         ensures { result ≡ (if nat_lt inst (interval_end self.now inst)
@@ -50,7 +50,7 @@ impl LearnedIntervals {
         if inst < end { end } else { next }
     }
 
-    /// Keeps the end of the interval that begins at an instance.
+    /// Sets the end of the interval that begins at an instance.
     pub(crate) fn put(&mut self, inst: u32, end: u32)
         requires small { inst < instance_count }
         requires near { end ≤ greatest_front }

@@ -1,13 +1,14 @@
 //! One server of Mencius (Mao, Junqueira and Marzullo, OSDI 2008, section 4).
 //!
-//! A [`Server`] suggests commands at its own instances, skips those for which it has none, revokes
-//! those of a server that it suspects, and suggests a command again that lost its instance. All that
-//! it sends is put on an `Outbox`, and all that it learns comes by [`Server::hear`], of its own
-//! messages too: whoever calls it is the network.
+//! A [`Server`] suggests commands at its own instances, and skips the instances for which it has no command. It revokes
+//! the instances of a server that it suspects. If a command loses its instance, the server suggests the command again.
+//! The server puts all messages that it sends on an `Outbox`. It learns only through [`Server::hear`], also from its
+//! own messages. The caller is the network.
 //!
-//! What a call does, and why it is refused, is said of the server's own state, whatever it heard,
-//! also messages that no cluster of such servers sends. By [`laws`] the call is then one event of
-//! every reached trace in which the server is what the definitions say.
+//! The contracts describe the effect of a call, and the causes of its refusal, in terms of the server's own state. They
+//! hold for all messages that the server may have heard, even for messages that no cluster of such servers sends. The
+//! [`laws`] link a call to the model. The call is one event of each reached trace at which the server's state is the
+//! state that the definitions give.
 #![tactic(auto)]
 
 ghost use Rattle.mencius_base.specs.Limits.{greatest_front, instance_count};
@@ -44,10 +45,10 @@ mod stored_instances;
 mod suggestion;
 mod tally;
 
-/// One server of a cluster: what it knows of each of the 4,096 instances, and its next own instance.
+/// One server of a cluster, with its knowledge about each of the 4,096 instances and its next own instance.
 ///
-/// After a refusal the server is as before, and so is the `Outbox`, but that it may have more room:
-/// all memory that a call needs, the outbox's too, is reserved before anything changes.
+/// A refused call leaves the server and the `Outbox` as they were, except that the outbox may have more room. Each call
+/// reserves all memory that it needs, including the outbox's, before it changes anything.
 #[derive(Drop)]
 pub struct Server {
     members: Members,
@@ -72,9 +73,9 @@ impl Model for Server {
 }
 
 impl Server {
-    /// A server that has heard nothing: it knows nothing of any instance, and its front is its number.
+    /// Makes a server that has heard nothing. It knows nothing about any instance, and its front is its number.
     ///
-    /// `id` is below the number of the members. The only refusal is `NoMemory`.
+    /// `id` is the server's number, which is below the number of members. The only refusal is `NoMemory`.
     pub fn new(alloc: Global, members: Members, id: u8) -> Result<Server, Refusal>
         requires { id < members.count }
         ensures ok { IfOk result (λ s. s ≡ server_at members [] id) }
@@ -91,14 +92,14 @@ impl Server {
         })
     }
 
-    /// The servers of the cluster, as [`Server::new`] got them.
+    /// Returns the membership that was passed to [`Server::new`].
     pub fn members(&self) -> Members
         ensures { result ≡ self.now.members }
     {
         self.members
     }
 
-    /// The server's own number, below the number of the members.
+    /// Returns the server's own number, which is below the number of members.
     pub fn id(&self) -> u8
         ensures id { result ≡ self.now.id }
         ensures member { result < self.now.members.count }
@@ -107,18 +108,18 @@ impl Server {
         self.id
     }
 
-    /// The next own instance, past all that the server suggested or skipped.
+    /// Returns the server's front, which is its next own instance after all that it suggested or skipped.
     ///
-    /// It is the server's number at first, only grows, and is at most 4,102: past 4,095 the server
-    /// has no instance left.
+    /// The front starts as the server's number, only grows, and is at most 4,102. If it is above 4,095, the server has
+    /// no instance left.
     pub fn front(&self) -> u32
         ensures { result ≡ self.now.front }
     {
         self.front
     }
 
-    /// The value that the server learned at an instance, if any. Past 4,095 there is no instance, and
-    /// nothing is learned.
+    /// Returns the value that the server learned at an instance, if any. No instance is above 4,095, so the result
+    /// there is `None`.
     pub fn learned(&self, inst: u32) -> Option<Value>
         ensures { result ≡ (slot self.now inst).learned }
     {
@@ -129,7 +130,8 @@ impl Server {
         }
     }
 
-    /// What the server knows of an instance, in short. Past 4,095 there is no instance, and nothing is known.
+    /// Returns a summary of the server's knowledge about an instance. No instance is above 4,095, so the server knows
+    /// nothing there.
     pub fn glance(&self, inst: u32) -> Glance
         ensures { result ≡ glance_of (slot self.now inst) }
     {
@@ -140,15 +142,17 @@ impl Server {
         }
     }
 
-    /// How many slots the server keeps, and how many intervals of instances that it was heard to skip.
+    /// Returns the number of slots that the server keeps, and the number of intervals that their owners were heard to
+    /// skip.
     ///
-    /// A slot is stored only where something else than a Skip was heard or done, so that neither count
-    /// grows with the number of instances. For tests: nothing that the server says rests on it.
+    /// A slot is stored only for an instance where the server heard or did something other than hearing a Skip. So
+    /// neither count grows with the number of instances. The counts are for tests, and no other result of the server
+    /// depends on them.
     pub fn kept(&self) -> (u32, u32) {
         self.instances.kept()
     }
 
-    // The least own instance from a place on.
+    // Returns the lowest own instance at or above `from`.
     fn next_own(&self, from: u32) -> u32
         requires { from ≤ greatest_front }
         ensures own { owner self.now.members result ≡ self.now.id }
@@ -158,7 +162,7 @@ impl Server {
         self.members.first_owned(self.id, from)
     }
 
-    // Changes an instance's slot where it is stored, and leaves the front.
+    // Changes the slot of an instance in place. The front stays as it is.
     fn change(&mut self, inst: u32, change: Change) -> Result<(), NoMemory>
         requires small { inst < instance_count }
         requires said { IsSaid self.old.members change }
@@ -174,7 +178,7 @@ impl Server {
         Ok(())
     }
 
-    // Moves the front.
+    // Moves the front, which must not move back.
     fn advance(&mut self, front: u32)
         requires ahead { self.old.front ≤ front }
         requires near { front ≤ greatest_front }

@@ -1,4 +1,4 @@
-//! What a server notes of its own tickets, so that it need not search for them.
+//! A server's notes about its own tickets, which save searches for them.
 ghost use Rattle.mencius_base.specs.Limits.{instance_count};
 ghost use Rattle.mencius_server.specs.Instances.{instance_slot};
 ghost use Rattle.mencius_server.specs.Machine.{is_ticket, suggested_in};
@@ -12,16 +12,16 @@ use mencius_base::{INSTANCES, Members, NoMemory, Value};
 use std::alloc::Global;
 use std::marker::Model;
 
-/// Bounds and marks of the tickets that a server suggested.
+/// Bounds and marks for the tickets that a server suggested.
 #[derive(Drop)]
 pub(crate) struct Notes {
-    // No own ticket waits at an instance below this one.
+    // No own ticket waits at an instance below this place.
     lost_from: u32,
-    // No own instance is free below this one.
+    // No own instance below this place is free.
     free_from: u32,
-    // Every ticket that was suggested is below this number.
+    // Every suggested ticket is below this number.
     next_ticket: u64,
-    // For each instance from 0, whether the own ticket there was suggested again further on.
+    // For each instance from 0, whether the own ticket there was suggested again at a later instance.
     suggested_again: Vec<bool>,
 }
 
@@ -39,7 +39,7 @@ impl Model for Notes {
 }
 
 impl Notes {
-    /// No ticket was suggested. It takes no memory.
+    /// Makes the notes of a server that has suggested no ticket. This does not allocate.
     pub(crate) fn new(alloc: Global) -> Notes
         ensures { result ≡ nothing_noted }
     {
@@ -51,49 +51,49 @@ impl Notes {
         }
     }
 
-    /// The place below which no own ticket waits.
+    /// Returns a place below which no own ticket waits.
     pub(crate) fn lost_from(&self) -> u32
         ensures { result ≡ self.now.lost_from }
     {
         self.lost_from
     }
 
-    /// Notes that an own ticket may wait at an instance from now on.
+    /// Notes that an own ticket may wait at `inst` from now on.
     pub(crate) fn note_lost(&mut self, inst: u32)
         ensures { self.new ≡ record self.old { lost_from = min self.old.lost_from inst } }
     {
         self.lost_from = self.lost_from.min(inst);
     }
 
-    /// Notes that no own ticket waits below an instance.
+    /// Notes that no own ticket waits below `inst`.
     pub(crate) fn lost_only_from(&mut self, inst: u32)
         ensures { self.new ≡ record self.old { lost_from = inst } }
     {
         self.lost_from = inst;
     }
 
-    /// The place below which no own instance is free to be suggested at.
+    /// Returns a place below which no own instance is free for a suggestion.
     pub(crate) fn free_from(&self) -> u32
         ensures { result ≡ self.now.free_from }
     {
         self.free_from
     }
 
-    /// Notes that no own instance is free below this one.
+    /// Notes that no own instance below `inst` is free.
     pub(crate) fn free_only_from(&mut self, inst: u32)
         ensures { self.new ≡ record self.old { free_from = inst } }
     {
         self.free_from = inst;
     }
 
-    /// Whether the own ticket of an instance was suggested again further on.
+    /// Returns whether the own ticket at `inst` was suggested again at a later instance.
     pub(crate) fn is_suggested_again(&self, inst: u32) -> bool
         ensures { result ≡ slice_index_or self.now.suggested_again inst false }
     {
         (inst as usize) < self.suggested_again.len() && self.suggested_again[inst as usize]
     }
 
-    /// Makes room for the marks of a ticket, where it was suggested before.
+    /// Makes room for the marks of a ticket if the ticket may have been suggested before.
     pub(crate) fn reserve(&mut self, front: u32, ticket: u32) -> Result<(), NoMemory>
         requires short { length self.old.suggested_again ≤ front }
         ensures others { self.new ≡ record self.old { suggested_again = self.new.suggested_again } }
@@ -110,8 +110,8 @@ impl Notes {
         unmarked_to(&mut self.suggested_again, front.min(INSTANCES) as usize)
     }
 
-    /// Notes that a ticket is suggested at an instance from the front on: marks the own instances before the front at
-    /// which it was suggested before.
+    /// Notes that a ticket is suggested at or above the front. Each own instance below the front where the ticket was
+    /// suggested before gets a mark.
     pub(crate) fn pass_on(
         &mut self,
         instances: &Instances,
@@ -151,7 +151,7 @@ impl Notes {
     }
 }
 
-// Makes places without a mark below a given one.
+// Lengthens the list to at least `wanted` places. The new places have no mark.
 fn unmarked_to(suggested_again: &mut Vec<bool>, wanted: usize) -> Result<(), NoMemory>
     ensures reach { OnOk result (wanted ≤ vec_len suggested_again.new) }
     ensures few { (vec_len suggested_again.new ≤ wanted) ⊎ (vec_len suggested_again.new ≡ vec_len suggested_again.old) }
@@ -169,7 +169,7 @@ fn unmarked_to(suggested_again: &mut Vec<bool>, wanted: usize) -> Result<(), NoM
     Ok(())
 }
 
-// Marks the own instances below a place where a ticket was suggested.
+// Marks the own instances below `end` where the ticket was suggested.
 fn mark(
     suggested_again: &mut Vec<bool>,
     instances: &Instances,
@@ -197,7 +197,7 @@ fn mark(
     }
 }
 
-// The ticket was suggested at the instance.
+// Returns whether the server's proposal at the instance is the ticket.
 fn is_of(instances: &Instances, inst: u32, ticket: u32) -> bool
     requires { inst < instance_count }
     ensures { result ≡ is_ticket ticket (ticket_of (instance_slot instances.now inst).proposal) }

@@ -1,4 +1,4 @@
-//! The instances of one server between two places.
+//! Intervals of the instances of one server.
 ghost use Rattle.mencius_base.specs.Limits.{greatest_front, most_servers};
 ghost use Rattle.mencius_base.specs.Members.{owner};
 ghost use Rattle.mencius_server.specs.OwnedIntervals.{IsOwnedInterval};
@@ -6,7 +6,7 @@ ghost use Rattle.std.specs.Prelude.{◌≡◌, ℕ, ◌+◌, ◌≤◌};
 
 use mencius_base::Members;
 
-/// The instances of one server from one of them on and below a place.
+/// The instances of one server from `first` up to, but not including, `stop`. The server owns `first`.
 #[derive(Clone, Copy, Debug)]
 pub(crate) struct OwnedInterval {
     pub(crate) members: Members,
@@ -16,7 +16,7 @@ pub(crate) struct OwnedInterval {
 }
 
 impl OwnedInterval {
-    /// The server's next instance after one of its own.
+    /// Returns the server's next instance after its instance `inst`.
     pub(crate) fn next(self, inst: u32) -> u32
         requires interval { IsOwnedInterval self }
         requires own { owner self.members inst ≡ self.server }
@@ -29,7 +29,7 @@ impl OwnedInterval {
     }
 }
 
-/// The next instance of the server that owns an instance.
+/// Returns the next instance after `inst` that has the same owner.
 pub(crate) fn next_owned(members: Members, inst: u32) -> u32
     requires { inst ≤ greatest_front }
     ensures owned { owner members result ≡ owner members inst }

@@ -1,4 +1,4 @@
-//! Rule 3: first phases at the instances of a server that is suspected.
+//! Rule 3, which starts first phases at the instances of a suspected server.
 ghost use Rattle.mencius_base.specs.Refusal.{IsRefusedFor};
 ghost use Rattle.mencius_server.specs.Machine.{IsUndone, SameServerAndLimit, after_suspect, is_spent, next_round_of, suspect_cause, suspect_sent};
 ghost use Rattle.mencius_server.specs.Slots.{prepare_at, slot_after_phase};
@@ -12,26 +12,32 @@ use coord_paxos::Slot;
 use mencius_base::{Ballot, GREATEST_ROUND, Members, Message, Outbox, Refusal};
 
 impl Server {
-    /// Revokes what a suspected server left open (Rule 3 of Mao, Junqueira and Marzullo, OSDI 2008,
-    /// section 4; the reach is this project's choice).
+    /// Revokes the open instances of a suspected server (Rule 3 of Mao, Junqueira and Marzullo, OSDI 2008, section 4).
+    /// The reach of a suspicion is this project's choice.
     ///
-    /// Where the least instance of the suspected server that this server has not learned is below beta
-    /// past its front, one Prepare goes to `out`, by rising instance, for each instance of the suspected
-    /// server that is at most twice beta past the front and that this server has not learned. Its round
-    /// is one above the greater of the rounds that this server tried and promised there. A suspicion may
-    /// be wrong: a command that was chosen stays chosen.
+    /// The suspicion acts if the lowest unlearned instance of the suspected server is below this server's front plus
+    /// beta. It then covers all unlearned instances of the suspected server that are at most this server's front plus
+    /// twice beta. For each of them, in rising order, one Prepare goes to `out`. The round of the Prepare is one above
+    /// the greater of the rounds that this server tried and promised there. A suspicion may be wrong, but a chosen
+    /// command stays chosen.
     ///
-    /// `suspected` is below the number of the members.
+    /// `suspected` is below the number of members.
     ///
     /// # Errors
     ///
-    /// In this order: `SelfSuspect`, `NothingToRevoke` where there is no such instance, `RoundsFull`
-    /// where a round would pass 65,535 at any of them, `MessagesFull` where `out` can't take them all,
-    /// `NoMemory`. No Prepare is sent then.
+    /// In this order:
+    ///
+    /// - `SelfSuspect` if `suspected` is this server
+    /// - `NothingToRevoke` if the suspicion covers no instance
+    /// - `RoundsFull` if the round would exceed 65,535 at a covered instance
+    /// - `MessagesFull` if `out` has no space for all the Prepares
+    /// - `NoMemory` if an allocation fails
+    ///
+    /// A refused suspicion sends no Prepare.
     pub fn suspect(&mut self, suspected: u8, out: &mut Outbox) -> Result<(), Refusal>
         requires { suspected < self.old.members.count }
-        // What it does by the server's own state, whatever was heard before; `laws::events` says
-        // that in every reached trace it is the suspicion.
+        // The clauses state the effect in terms of the server's own state, for all messages heard before.
+        // `laws::events` says that the call is the suspicion at each reached trace.
         ensures sent { OnOk result (out.new.messages
             ≡ out.old.messages ++ suspect_sent self.old suspected) }
         ensures after { OnOk result (self.new ≡ after_suspect self.old suspected) }
@@ -51,18 +57,18 @@ impl Server {
     }
 }
 
-// One above the rounds that were tried and promised.
+// Returns the round after the rounds of the tried ballot and the promised ballot.
 pub(crate) fn next_round_of(members: Members, slot: &Slot) -> u32
     ensures round { result ≡ next_round_of members slot.now }
     ensures some { 1 ≤ result }
 {
-    // Rounds are ordered as their ballots are, so one division is enough.
+    // Rounds have the same order as their ballots, so one division is enough.
     let highest = slot.trying().max(slot.promised());
     highest.round(members) + 1
 }
 
-// Starts a first phase at a slot where nothing was learned: whether it is in the last round. Where something was
-// learned it starts none.
+// Starts a first phase at an unlearned slot, and returns whether that phase is in the last round. If the slot has
+// learned a value, the function starts no phase and returns `None`.
 pub(crate) fn begin_slot(
     slot: &mut Slot,
     members: Members,
@@ -89,6 +95,6 @@ pub(crate) fn begin_slot(
             ballot,
         });
     }
-    // The slot tries this round now, so the next one is the round after it.
+    // The slot now tries this round, so its next round is the one after it.
     Some(round >= GREATEST_ROUND)
 }

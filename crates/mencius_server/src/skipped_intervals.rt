@@ -1,7 +1,7 @@
 //! Intervals of the instances that one server skipped.
 //!
-//! A server owns every few instances, and an interval stands for those of them that lie in it. The intervals
-//! rise, and no two of them meet.
+//! With n servers, a server owns every n-th instance. An interval represents only the server's own instances in it. The
+//! intervals are in rising order, and no two of them overlap or touch.
 ghost use Rattle.mencius_server.specs.Intervals.{IsRising, is_in_any, reach_of, with_interval};
 ghost use Rattle.mencius_server.specs.declared.skipped_intervals.Interval.{Interval};
 ghost use Rattle.std.specs.Prelude.{◌≡◌, ℕ, ◌+◌, ◌<◌, ◌≤◌, [], true, false, length, slice_index_or, vec_capacity, vec_len, IfOk, OnErr, OnOk};
@@ -10,14 +10,14 @@ use mencius_base::{Members, NoMemory};
 use std::alloc::Global;
 use std::marker::Model;
 
-/// An interval of instances: from one of a server's up to another, which is not in it.
+/// An interval from one instance of a server up to, but not including, another instance of that server.
 #[derive(Clone, Copy, Debug)]
 pub(crate) struct Interval {
     pub(crate) first: u32,
     pub(crate) stop: u32,
 }
 
-/// The intervals of one server's instances that it was heard to skip.
+/// The intervals of instances that one server was heard to skip.
 #[derive(Drop)]
 pub(crate) struct SkippedIntervals {
     intervals: Vec<Interval>,
@@ -36,7 +36,7 @@ impl Model for SkippedIntervals {
 }
 
 impl SkippedIntervals {
-    /// No interval. It takes no memory.
+    /// Makes an empty list of intervals. This does not allocate.
     pub(crate) fn new(alloc: Global) -> SkippedIntervals
         ensures { result ≡ [] }
     {
@@ -45,7 +45,7 @@ impl SkippedIntervals {
         }
     }
 
-    /// For each server, no interval.
+    /// Makes an empty list of intervals for each server.
     pub(crate) fn none_of_each(
         alloc: Global,
         members: Members,
@@ -61,21 +61,22 @@ impl SkippedIntervals {
         Ok(skipped)
     }
 
-    /// How many intervals there are.
+    /// Returns the number of intervals.
     pub(crate) fn len(&self) -> usize
         ensures { result ≡ length self.now }
     {
         self.intervals.len()
     }
 
-    /// Whether an instance lies in one of the intervals, in steps that grow with the logarithm of their number.
+    /// Returns whether an instance lies in one of the intervals. The number of steps grows with the logarithm of the
+    /// number of intervals.
     pub(crate) fn has_instance(&self, inst: u32) -> bool
         ensures { result ≡ is_in_any self.now inst }
     {
         self.past(inst) != inst
     }
 
-    /// The least place from an instance on that lies in no interval.
+    /// Returns the lowest place at or above `inst` that lies in no interval.
     pub(crate) fn past(&self, inst: u32) -> u32
         ensures above { inst ≤ result }
         ensures covered { (j : ℕ) → inst ≤ j → j < result → is_in_any self.now j ≡ true }
@@ -89,7 +90,8 @@ impl SkippedIntervals {
         }
     }
 
-    /// The least place from an instance on that lies in an interval, as far as another place.
+    /// Returns the lowest place at or above `inst` that lies in an interval, or `stop` if that place would be above
+    /// `stop`.
     pub(crate) fn clear_to(&self, inst: u32, stop: u32) -> u32
         requires { inst ≤ stop }
         ensures above { inst ≤ result }
@@ -105,7 +107,8 @@ impl SkippedIntervals {
         }
     }
 
-    /// Adds an interval, joined with those that it meets, and answers how far the intervals reach further.
+    /// Adds an interval and joins it with the intervals that it meets. Returns by how much the total length of the
+    /// intervals grows.
     pub(crate) fn add(&mut self, first: u32, stop: u32) -> Result<u32, NoMemory>
         requires { first < stop }
         ensures ok { OnOk result (self.new ≡ with_interval self.old first stop) }
@@ -117,7 +120,7 @@ impl SkippedIntervals {
     }
 }
 
-// The place of the first interval that ends past an instance, or the number of intervals.
+// Returns the position of the first interval that ends above `inst`, or the number of intervals if none ends there.
 fn first_past(intervals: &[Interval], inst: u32) -> usize
     requires { IsRising 0 intervals.now }
     ensures within { result ≤ length intervals.now }
@@ -138,7 +141,8 @@ fn first_past(intervals: &[Interval], inst: u32) -> usize
     low
 }
 
-// Adds an interval, for which there is room, joined with those that it meets: how far the intervals reach further.
+// Adds an interval and joins it with the intervals that it meets. The list has room for it. Returns by how much the
+// total length of the intervals grows.
 fn join(intervals: &mut Vec<Interval>, first: u32, stop: u32) -> u32
     requires rising { IsRising 0 intervals.old.items }
     requires some { first < stop }

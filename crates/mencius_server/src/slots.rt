@@ -1,4 +1,4 @@
-//! The slots that are stored, by instance.
+//! The stored slots, by instance.
 ghost use Rattle.mencius_base.specs.Limits.{instance_count};
 ghost use Rattle.coord_paxos.specs.Fresh.{new_slot};
 ghost use Rattle.coord_paxos.specs.Slot.{after_learn};
@@ -29,15 +29,15 @@ use mencius_base::{INSTANCES, Members, NoMemory, Outbox, Value};
 use std::alloc::Global;
 use std::marker::Model;
 
-/// The slots that are stored, each at one instance.
+/// The stored slots. Each slot belongs to one instance.
 ///
-/// A table has the place of each instance's slot, so that a slot is found without a search and changed where it
-/// is stored, and so that room for several slots is reserved before the first of them is stored.
+/// A table contains the place of each instance's slot, so a call finds a slot without a search and changes it in place.
+/// A call can also reserve room for several slots before it stores the first of them.
 #[derive(Drop)]
 pub(crate) struct Slots {
-    // For each instance, as far as any slot is stored, the place of its slot.
+    // For each instance, the place of its slot, if it has one. Instances past the end of the table have no slot.
     places: Vec<Option<usize>>,
-    // The slots, in the order in which they came to be stored.
+    // The slots, in the order of their first use.
     slots: Vec<Slot>,
 }
 
@@ -54,7 +54,7 @@ impl Model for Slots {
 }
 
 impl Slots {
-    /// No slot is stored. It takes no memory.
+    /// Makes a table without slots. This does not allocate.
     pub(crate) fn new(alloc: Global) -> Slots
         ensures { (j : ℕ) → stored_at result j ≡ None }
     {
@@ -64,7 +64,7 @@ impl Slots {
         }
     }
 
-    /// How many slots are stored.
+    /// Returns the number of stored slots.
     pub(crate) fn len(&self) -> usize
         ensures count { result ≡ count_by is_some self.now }
         ensures all { length self.now ≡ instance_count }
@@ -72,7 +72,7 @@ impl Slots {
         self.slots.len()
     }
 
-    /// The slot that is stored at an instance, if one is.
+    /// Returns the slot that is stored at an instance, if any.
     pub(crate) fn get(&self, inst: u32) -> Option<&Slot>
         requires { inst < instance_count }
         ensures there { IfSome result (λ s. stored_at self.now inst ≡ Some s.now) }
@@ -84,7 +84,7 @@ impl Slots {
         }
     }
 
-    /// Whether a slot is stored at an instance.
+    /// Returns whether a slot is stored at an instance.
     pub(crate) fn has_slot(&self, inst: u32) -> bool
         requires { inst < instance_count }
         ensures { result ≡ is_some (stored_at self.now inst) }
@@ -92,7 +92,7 @@ impl Slots {
         place_at(&self.places, inst).is_some()
     }
 
-    /// The slot that is stored at an instance, to be changed there.
+    /// Returns the slot that is stored at an instance, so that the caller can change it in place.
     pub(crate) fn at(&mut self, inst: u32) -> &mut Slot
         requires small { inst < instance_count }
         requires there { IsSome (stored_at self.old inst) }
@@ -103,7 +103,7 @@ impl Slots {
         &mut self.slots[place]
     }
 
-    /// Stores a slot at an instance where none is stored. A skipped instance is learned.
+    /// Stores a slot at an instance that has none. If the instance was skipped, the slot has learned no-op.
     pub(crate) fn store(
         &mut self,
         members: Members,
@@ -123,10 +123,9 @@ impl Slots {
         Ok(())
     }
 
-    /// Stores new slots at the instances of an interval that lack one: none is stored there, and no skipped interval
-    /// has them.
+    /// Stores a new slot at each instance of an interval that has no slot and lies in no skipped interval.
     ///
-    /// There are at most so many of them.
+    /// There are at most `lacking` of these instances.
     pub(crate) fn store_all(
         &mut self,
         interval: OwnedInterval,
@@ -159,9 +158,10 @@ impl Slots {
         Ok(())
     }
 
-    /// Starts a first phase at each slot of an interval that has learned nothing: whether any is in the last round.
+    /// Starts a first phase at each unlearned slot of an interval. Returns whether any of these phases is in the last
+    /// round.
     ///
-    /// There is room for the Prepares.
+    /// `out` has room for the Prepares.
     pub(crate) fn begin_all(
         &mut self,
         interval: OwnedInterval,
@@ -205,8 +205,8 @@ impl Slots {
         is_last
     }
 
-    // Starts a first phase at an instance where a slot is stored that has learned nothing: whether it is in the last
-    // round. Elsewhere it starts none.
+    // Starts a first phase at an instance with an unlearned slot, and returns whether that phase is in the last round.
+    // At any other instance, the function starts no phase and returns `None`.
     fn begin(&mut self, members: Members, id: u8, inst: u32, out: &mut Outbox) -> Option<bool>
         requires { CanBeginAt members id inst self.old out.old }
         ensures slots { (j : ℕ) → stored_at self.new j
@@ -226,7 +226,7 @@ impl Slots {
         }
     }
 
-    // Whether a slot is stored at an instance that has learned nothing.
+    // Returns whether an instance has a slot that has learned nothing.
     fn is_unlearned(&self, inst: u32) -> bool
         requires { inst < instance_count }
         ensures { result ≡ is_unlearned (stored_at self.now inst) }
@@ -237,7 +237,7 @@ impl Slots {
         }
     }
 
-    /// Learns no-op at an interval of a server's instances, and counts those that were not learned.
+    /// Learns no-op at the instances of an interval. Returns the number of these instances that were unlearned before.
     pub(crate) fn skip(
         &mut self,
         intervals: &mut SkippedIntervals,
@@ -264,7 +264,7 @@ impl Slots {
         Ok(further / u32::from(members.count()) - learned_before)
     }
 
-    // At how many slots of an interval a value was learned and no skipped interval has the instance.
+    // Counts the slots of an interval that have learned a value and whose instance lies in no skipped interval.
     fn count_learned_before(&self, interval: OwnedInterval, skipped: &SkippedIntervals) -> u32
         requires interval { IsOwnedInterval interval }
         ensures { result ≡ count_by (is_learned_before interval skipped.now self.now) instances }
@@ -280,7 +280,7 @@ impl Slots {
         count
     }
 
-    // Whether a slot is stored at the instance that has learned a value, and no skipped interval has the instance.
+    // Returns whether an instance has a slot that has learned a value, and lies in no skipped interval.
     fn is_learned_before(&self, inst: u32, skipped: &SkippedIntervals) -> bool
         requires { inst < instance_count }
         ensures { result ≡ (not (is_in_any skipped.now inst) && is_learned (stored_at self.now inst)) }
@@ -291,7 +291,7 @@ impl Slots {
         }
     }
 
-    // Learns no-op at each slot of an interval.
+    // Learns no-op at each unlearned slot of an interval.
     fn learn_noops(&mut self, interval: OwnedInterval)
         requires interval { IsOwnedInterval interval }
         ensures { (j : ℕ) → j < instance_count
@@ -306,7 +306,7 @@ impl Slots {
         }
     }
 
-    // Learns no-op at a slot, if one is stored at the instance.
+    // Learns no-op at the slot of an instance, if the instance has a slot.
     fn learn_noop(&mut self, inst: u32)
         requires { inst < instance_count }
         ensures { (j : ℕ) → stored_at self.new j
@@ -319,7 +319,7 @@ impl Slots {
         }
     }
 
-    // The place from which on no slot is stored below another place.
+    // Returns a place at or below `stop`. No slot is stored from that place up to, but not including, `stop`.
     fn end_of(&self, stop: u32) -> u32
         ensures small { result ≤ instance_count }
         ensures within { result ≤ stop }
@@ -330,7 +330,7 @@ impl Slots {
     }
 }
 
-/// A slot where nothing was heard but perhaps a Skip.
+/// Makes a slot for an instance where the server has heard at most a Skip.
 pub(crate) fn blank(members: Members, is_skipped: bool) -> Slot
     ensures { result ≡ slot_by_skip members is_skipped }
 {
@@ -341,7 +341,7 @@ pub(crate) fn blank(members: Members, is_skipped: bool) -> Slot
     }
 }
 
-// The place of the slot at an instance, if one is stored there.
+// Returns the place of the slot at an instance, if a slot is stored there.
 fn place_at(places: &[Option<usize>], inst: u32) -> Option<usize>
     ensures { result ≡ slice_index_or places.now inst None }
 {
@@ -352,7 +352,7 @@ fn place_at(places: &[Option<usize>], inst: u32) -> Option<usize>
     }
 }
 
-// Lengthens the table to some instances or a few more, at most all. None is stored at the new ones.
+// Lengthens the table to at least `wanted` instances, and at most to all instances. The new entries have no slot.
 fn widen(places: &mut Vec<Option<usize>>, wanted: usize) -> Result<(), NoMemory>
     requires small { wanted ≤ instance_count }
     requires few { vec_len places.old ≤ instance_count }
@@ -365,7 +365,7 @@ fn widen(places: &mut Vec<Option<usize>>, wanted: usize) -> Result<(), NoMemory>
     if places.len() >= wanted {
         return Ok(());
     }
-    // A few more, so that the next ones need no room.
+    // A few more entries than wanted, so that the next instances often need no growth.
     let wider = (wanted + 63).min(INSTANCES as usize);
     places.reserve(wider - places.len())?;
     while places.len() < wider {
@@ -374,7 +374,8 @@ fn widen(places: &mut Vec<Option<usize>>, wanted: usize) -> Result<(), NoMemory>
     Ok(())
 }
 
-// Stores new slots at the instances of an interval that lack one, for which there is room.
+// Stores a new slot at each instance of an interval that has no slot and lies in no skipped interval. `slots` has room
+// for these slots.
 fn push_lacking(
     places: &mut Vec<Option<usize>>,
     slots: &mut Vec<Slot>,
@@ -399,7 +400,7 @@ fn push_lacking(
     let mut inst = interval.first;
     while inst < stop {
         let next = next_owned(members, inst);
-        // The table needs no search, so it is asked first.
+        // A look into the table needs no search, so it comes first.
         if places[inst as usize].is_some() {
             inst = next;
         } else if skipped.has_instance(inst) {
@@ -411,7 +412,7 @@ fn push_lacking(
     }
 }
 
-// Stores a new slot at an instance if none is stored there, for which there is room then.
+// Stores a new slot at an instance that has none. In that case, `slots` has room for it.
 fn push_at(places: &mut Vec<Option<usize>>, slots: &mut Vec<Slot>, members: Members, inst: u32)
     requires places { HasPlaces (vec_len places.old) places.old.items (vec_len slots.old) (inst + 1) }
     requires room { is_none (stored_at (stored_slots places.old.items slots.old.items) inst) ≡ true

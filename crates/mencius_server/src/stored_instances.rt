@@ -1,4 +1,4 @@
-//! What is stored of the instances: slots, and intervals of skipped instances.
+//! The stored knowledge about instances, in slots and in intervals of skipped instances.
 ghost use Rattle.mencius_base.specs.Limits.{greatest_front, instance_count};
 ghost use Rattle.mencius_base.specs.Members.{owner};
 ghost use Rattle.mencius_server.specs.Instances.{IsSorted, instance_slot_in, is_in_skipped, slot_by_skip};
@@ -13,20 +13,20 @@ use crate::slots::{Slots, blank};
 use coord_paxos::Slot;
 use mencius_base::{INSTANCES, Members, Value};
 
-/// What is known of each instance: by a slot where something was heard or done there, and by intervals where a Skip was
-/// all that was heard.
+/// The knowledge about each instance. An instance has a slot if the server heard or did something there other than
+/// hearing a Skip. Intervals cover the instances where the server heard only a Skip.
 ///
-/// A slot that is stored where an interval has the instance knows that a value was learned.
+/// If an instance has a slot and also lies in an interval, its slot has learned a value.
 #[derive(Drop)]
 pub(crate) struct StoredInstances {
     pub(crate) members: Members,
     pub(crate) slots: Slots,
-    // For each server, the intervals of its instances that it was heard to skip.
+    // For each server, the intervals of instances that it was heard to skip.
     pub(crate) skipped: Vec<SkippedIntervals>,
 }
 
 impl StoredInstances {
-    /// Whether the owner of an instance was heard to skip it.
+    /// Returns whether the owner of an instance was heard to skip it.
     pub(crate) fn is_skipped(&self, inst: u32) -> bool
         requires { IsSorted self.now.members self.now.skipped.items }
         ensures { result ≡ is_in_skipped self.now.members self.now.skipped.items inst }
@@ -34,7 +34,7 @@ impl StoredInstances {
         self.skipped[self.members.owner(inst) as usize].has_instance(inst)
     }
 
-    /// What is known of an instance where no slot is stored.
+    /// Returns the knowledge about an instance that has no slot.
     pub(crate) fn slot_by_skip(&self, inst: u32) -> Slot
         requires { IsSorted self.now.members self.now.skipped.items }
         ensures { result ≡ slot_by_skip self.now.members
@@ -43,7 +43,7 @@ impl StoredInstances {
         blank(self.members, self.is_skipped(inst))
     }
 
-    /// The value that was learned at an instance, if any.
+    /// Returns the value that the server learned at an instance, if any.
     pub(crate) fn learned(&self, inst: u32) -> Option<Value>
         requires sorted { IsSorted self.now.members self.now.skipped.items }
         requires small { inst < instance_count }
@@ -61,7 +61,7 @@ impl StoredInstances {
         }
     }
 
-    /// The least instance from a given one on that is not learned, or the end.
+    /// Returns the lowest unlearned instance at or above `from`, or 4,096 if all these instances are learned.
     pub(crate) fn learned_from(&self, from: u32) -> u32
         requires sorted { IsSorted self.now.members self.now.skipped.items }
         requires small { from ≤ instance_count }
@@ -78,9 +78,10 @@ impl StoredInstances {
         inst
     }
 
-    /// A server's least instance from one of its own on that is not learned, or one that is not below the end.
+    /// Returns the lowest unlearned instance of the owner of `from`, starting at `from`. If that instance is not below
+    /// `stop`, the result is a place that is not below `stop`.
     ///
-    /// It leaps over the intervals of learned instances that are known, and keeps the one that it finds.
+    /// The search leaps over the known intervals of learned instances, and records the interval that it finds.
     pub(crate) fn open_from(
         &self,
         learned_intervals: &mut LearnedIntervals,

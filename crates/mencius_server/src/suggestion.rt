@@ -1,4 +1,4 @@
-//! Rules 1 and 4: where a ticket is suggested, and which tickets wait to be suggested again.
+//! Rules 1 and 4. They say where a server suggests a ticket, and which tickets wait to be suggested again.
 ghost use Rattle.mencius_base.specs.Limits.{instance_count};
 ghost use Rattle.mencius_base.specs.Members.{instances, owner};
 ghost use Rattle.mencius_base.specs.Refusal.{IsRefusedFor};
@@ -15,17 +15,20 @@ use mencius_base::{INSTANCES, Members, Message, NoMemory, Outbox, Refusal, Value
 impl Server {
     /// Suggests a new ticket (Rule 1 of Mao, Junqueira and Marzullo, OSDI 2008, section 4).
     ///
-    /// One Suggest goes to `out`, at the least own instance from the front on that this server has
-    /// not learned, and the front moves to the next own instance after it. The ticket is the number
-    /// of a command in order of submission, from 0.
+    /// One Suggest goes to `out`. Its instance is the lowest own instance at or above the front that this server has
+    /// not learned. The front moves to the next own instance after it. The ticket is the number of a command in order
+    /// of submission, from 0.
     ///
     /// # Errors
     ///
-    /// In this order: `InstancesFull` where no such instance is left, `MessagesFull` where `out` is at
-    /// its limit, `NoMemory`.
+    /// In this order:
+    ///
+    /// - `InstancesFull` if no such instance is left
+    /// - `MessagesFull` if `out` is at its limit
+    /// - `NoMemory` if an allocation fails
     pub fn submit(&mut self, ticket: u32, out: &mut Outbox) -> Result<(), Refusal>
-        // What it does by the server's own state, whatever was heard before; `laws::events` says that in every reached
-        // trace whose next ticket this is it is the submission.
+        // The clauses state the effect in terms of the server's own state, for all messages heard before.
+        // `laws::events` says that the call is the submission at each reached trace whose next ticket is `ticket`.
         ensures sent { OnOk result (out.new.messages
             ≡ out.old.messages ++ submit_sent self.old ticket (free_at self.old)) }
         ensures after { OnOk result (self.new
@@ -44,7 +47,7 @@ impl Server {
         Ok(())
     }
 
-    // Writes a suggestion at a free instance.
+    // Records a suggestion at a free instance, and moves the front past it.
     fn place(&mut self, inst: u32, ticket: u32) -> Result<(), NoMemory>
         requires { IsFree self.old inst }
         ensures ok { OnOk result (self.new ≡ after_submit self.old inst ticket) }
@@ -59,7 +62,8 @@ impl Server {
         Ok(())
     }
 
-    // The least own instance from the front on that was not learned, noted so that it is not looked for again.
+    // Returns the lowest unlearned own instance at or above the front. It is noted, so that the next search starts
+    // there.
     fn free(&mut self) -> Option<u32>
         ensures place { result ≡ free_at self.old }
         ensures fits { IfSome result (λ i. IsFree self.old i) }
@@ -77,7 +81,7 @@ impl Server {
         }
     }
 
-    // The least own instance from the front on that was not learned.
+    // Returns the lowest unlearned own instance at or above the front.
     fn find_free(&self) -> Option<u32>
         ensures place { result ≡ free_at self.now }
         ensures fits { IfSome result (λ i. IsFree self.now i) }
@@ -96,8 +100,11 @@ impl Server {
         None
     }
 
-    /// The first ticket that waits to be suggested again (Rule 4), if any: by rising instance, a ticket
-    /// waits where this server suggested it and learned no-op, and suggested it nowhere further on.
+    /// Returns the first ticket that waits to be suggested again (Rule 4), if any. It is the ticket that waits at the
+    /// lowest instance.
+    ///
+    /// A ticket waits at an instance if this server suggested the ticket there, learned no-op there, and suggested the
+    /// ticket at no later instance.
     pub fn waiting(&self) -> Option<u32>
         ensures { result ≡ first_waiting self.now }
     {
@@ -107,7 +114,7 @@ impl Server {
         }
     }
 
-    // The least instance at which a ticket waits, and the ticket.
+    // Returns the lowest instance where a ticket waits, and that ticket.
     fn first_lost(&self) -> Option<(u32, u32)>
         ensures first { IfSome result (λ x. (x.0 < instance_count)
             × (own_waiting_at self.now x.0 ≡ Some x.1)
@@ -125,8 +132,8 @@ impl Server {
         None
     }
 
-    /// The ticket that waits since it lost an instance: the server suggested it there and learned no-op,
-    /// and suggested it nowhere further on.
+    /// Returns the ticket that waits because it lost this instance, if any. The server suggested it there, learned
+    /// no-op there, and suggested it at no later instance.
     pub fn waiting_at(&self, inst: u32) -> Option<u32>
         ensures { result ≡ own_waiting_at self.now inst }
     {
@@ -140,7 +147,7 @@ impl Server {
         Some(ticket)
     }
 
-    // The ticket of an own instance was suggested again further on.
+    // Returns whether the ticket of an own instance was suggested again at a later instance.
     fn is_suggested_again(&self, inst: u32, ticket: u32) -> bool
         requires { suggested_at self.now inst ≡ Some ticket }
         ensures { result ≡ list_any (is_suggested_again self.now ticket inst) instances }
@@ -148,7 +155,7 @@ impl Server {
         self.notes.is_suggested_again(inst)
     }
 
-    // The ticket that was suggested at an instance.
+    // Returns the ticket that the server suggested at an instance, if any.
     fn suggested(&self, inst: u32) -> Option<u32>
         ensures { result ≡ suggested_at self.now inst }
     {
@@ -162,7 +169,7 @@ impl Server {
         }
     }
 
-    // What the server proposed at an instance, at the ballot that it tries.
+    // Returns the value that the server proposed at an instance, at the ballot that it tries, if any.
     fn proposal(&self, inst: u32) -> Option<Value>
         ensures { result ≡ (slot self.now inst).proposal }
     {
@@ -173,15 +180,19 @@ impl Server {
         }
     }
 
-    /// Suggests the first waiting ticket again (Rule 4), as [`Server::submit`] suggests a new one.
+    /// Suggests the first waiting ticket again (Rule 4), as [`Server::submit`] suggests a new ticket.
     ///
     /// # Errors
     ///
-    /// In this order: `NothingWaiting` where [`Server::waiting`] is `None`, `InstancesFull` where no own
-    /// instance from the front on is unlearned, `MessagesFull` where `out` is at its limit, `NoMemory`.
+    /// In this order:
+    ///
+    /// - `NothingWaiting` if [`Server::waiting`] is `None`
+    /// - `InstancesFull` if no own instance at or above the front is unlearned
+    /// - `MessagesFull` if `out` is at its limit
+    /// - `NoMemory` if an allocation fails
     pub fn retry(&mut self, out: &mut Outbox) -> Result<(), Refusal>
-        // What it does by the server's own state, whatever was heard before; `laws::events` says that in every reached
-        // trace it is the retry.
+        // The clauses state the effect in terms of the server's own state, for all messages heard before.
+        // `laws::events` says that the call is the retry at each reached trace.
         ensures sent { OnOk result (out.new.messages
             ≡ out.old.messages ++ retry_sent self.old (first_waiting self.old)) }
         ensures after { OnOk result (self.new ≡ after_retry self.old (first_waiting self.old)) }

@@ -1,4 +1,4 @@
-//! How many instances a suspicion would revoke, counted while they change.
+//! Counts of the instances that a suspicion would revoke. They are updated as the instances change.
 ghost use Rattle.mencius_base.specs.Limits.{instance_count, most_servers};
 ghost use Rattle.mencius_base.specs.Members.{owner};
 ghost use Rattle.mencius_base.specs.Refusal.{IsRefusedFor};
@@ -20,26 +20,26 @@ use coord_paxos::Slot;
 use mencius_base::{GREATEST_ROUND, MOST_SERVERS, Members, Outbox, Refusal};
 use std::marker::Model;
 
-/// What was counted of one server's instances.
+/// Counts of one server's instances below a place.
 #[derive(Clone, Copy, Debug)]
 pub(crate) struct Tally {
-    /// The place below which they are counted.
+    /// The place below which instances are counted.
     pub(crate) stop: u32,
-    /// At how many of them nothing was learned.
+    /// The number of counted instances that are unlearned.
     pub(crate) open_count: u32,
-    /// At how many of these there is no further round.
+    /// The number of counted instances that are unlearned and have no further round.
     pub(crate) spent_count: u32,
 }
 
 impl Tally {
-    /// Nothing was counted.
+    /// The tally of no instances.
     pub(crate) const NOTHING: Tally = Tally {
         stop: 0,
         open_count: 0,
         spent_count: 0,
     };
 
-    /// With an instance at which a slot is stored.
+    /// Adds an instance that has a slot.
     pub(crate) fn with_slot(self, members: Members, slot: &Slot) -> Tally
         requires few { self.open_count ≤ instance_count }
         requires fewer { self.spent_count ≤ instance_count }
@@ -53,7 +53,7 @@ impl Tally {
         }
     }
 
-    /// With an instance that lacks a slot, and was not skipped.
+    /// Adds an instance that has no slot and was not skipped.
     pub(crate) fn with_bare(self) -> Tally
         requires { self.open_count ≤ instance_count }
         ensures { result ≡ record self { open_count = self.open_count + 1 } }
@@ -65,7 +65,7 @@ impl Tally {
         }
     }
 
-    /// Without an instance that was counted, at which a slot is stored.
+    /// Removes an instance that was counted and has a slot.
     pub(crate) fn without_slot(self, members: Members, slot: &Slot) -> Tally
         requires { HasCounted members self slot.now }
         ensures { result ≡ without_counted members self slot.now }
@@ -78,7 +78,7 @@ impl Tally {
         }
     }
 
-    /// With what was counted from its end on.
+    /// Adds `further`, which is a tally of the instances that follow the end of this tally.
     pub(crate) fn plus(self, further: Tally) -> Tally
         requires few { self.open_count + further.open_count ≤ instance_count }
         requires fewer { self.spent_count + further.spent_count ≤ instance_count }
@@ -91,7 +91,7 @@ impl Tally {
         }
     }
 
-    /// Without some of what was counted.
+    /// Subtracts a tally of some of the counted instances.
     pub(crate) fn without(self, some: Tally) -> Tally
         requires few { some.open_count ≤ self.open_count }
         requires fewer { some.spent_count ≤ self.spent_count }
@@ -104,7 +104,8 @@ impl Tally {
         }
     }
 
-    /// Makes room for the Prepares that a suspicion sends, where it is not to be refused.
+    /// Makes room for the Prepares of a suspicion with this tally, or returns the cause for which the suspicion is
+    /// refused.
     pub(crate) fn reserve(self, out: &mut Outbox) -> Result<(), Refusal>
         ensures refusal { IsRefusedFor (tally_cause self out.old) result }
         ensures rounds { OnOk result (self.spent_count ≡ 0) }
@@ -123,7 +124,7 @@ impl Tally {
     }
 }
 
-// Whether there is no further round at a slot.
+// Returns whether a slot has no further round.
 fn is_spent(members: Members, slot: &Slot) -> bool
     ensures { result ≡ is_spent members slot.now }
 {
@@ -134,7 +135,7 @@ fn is_spent(members: Members, slot: &Slot) -> bool
 #[derive(Drop)]
 pub(crate) struct Tallies {
     by_server: [Tally; MOST_SERVERS as usize],
-    // No tally reaches past this place, so that a change from there on needs no look at them.
+    // No tally reaches past this place, so a change at or above it leaves all tallies as they are.
     reach: u32,
 }
 
@@ -151,7 +152,7 @@ impl Model for Tallies {
 }
 
 impl Tallies {
-    /// Nothing was counted.
+    /// Makes a tally of no instances for each server.
     pub(crate) fn new() -> Tallies
         ensures { (q : ℕ) → tally_of result q ≡ no_tally }
     {
@@ -161,7 +162,7 @@ impl Tallies {
         }
     }
 
-    /// What was counted of a server's instances.
+    /// Returns the tally of a server.
     pub(crate) fn get(&self, server: u8) -> Tally
         requires { server < most_servers }
         ensures { result ≡ tally_of self.now server }
@@ -169,7 +170,7 @@ impl Tallies {
         self.by_server[server as usize]
     }
 
-    /// The same if it was counted no further than to a place, and else nothing.
+    /// Returns the tally of a server if its end is at most `stop`, and otherwise the tally of no instances.
     pub(crate) fn up_to(&self, server: u8, stop: u32) -> Tally
         requires { server < most_servers }
         ensures was { (result ≡ tally_of self.now server) ⊎ (result ≡ no_tally) }
@@ -182,7 +183,7 @@ impl Tallies {
         tally
     }
 
-    /// Keeps what was counted of a server's instances.
+    /// Sets the tally of a server.
     pub(crate) fn put(&mut self, server: u8, tally: Tally)
         requires { server < most_servers }
         ensures { (q : ℕ) → tally_of self.new q
@@ -192,7 +193,7 @@ impl Tallies {
         self.reach = self.reach.max(tally.stop);
     }
 
-    /// Changes an instance's slot, and counts what it is from then on.
+    /// Changes the slot of an instance. If the instance is counted, the call updates its owner's tally.
     pub(crate) fn change(&mut self, members: Members, inst: u32, slot: &mut Slot, change: Change)
         requires said { IsSaid slot.old.members change }
         requires counted { inst < (tally_of self.old (owner members inst)).stop
@@ -220,9 +221,9 @@ impl Tallies {
 }
 
 impl StoredInstances {
-    /// Counts a server's instances between two places.
+    /// Counts a server's instances from `first` up to, but not including, `stop`.
     ///
-    /// It jumps over the skipped intervals, and goes from one instance to the next where there is none.
+    /// The count jumps over the skipped intervals, and visits all other instances of the server one by one.
     pub(crate) fn tally_from(&self, server: u8, first: u32, stop: u32) -> Tally
         requires skips { AreSkipsLearned self.now.members self.now.slots self.now.skipped.items }
         requires member { server < self.now.members.count }
@@ -246,9 +247,9 @@ impl StoredInstances {
         tally
     }
 
-    /// What was counted of a server's instances, once no-op is learned at those of an interval.
+    /// Returns the tally of the interval's server once no-op is learned at the instances of the interval.
     ///
-    /// It counts only those of them that were counted.
+    /// The call visits only the instances of the interval that `tally` counts.
     pub(crate) fn tally_after_skip(&self, interval: &OwnedInterval, tally: Tally) -> Tally
         requires members { interval.now.members ≡ self.now.members }
         requires skips { AreSkipsLearned self.now.members self.now.slots self.now.skipped.items }
@@ -269,7 +270,7 @@ impl StoredInstances {
         tally.without(newly_skipped)
     }
 
-    /// Counts a server's instances anew, if many may have changed.
+    /// Counts a server's instances again if `is_changed` says that many of them may have changed.
     pub(crate) fn retally_changed(&self, server: u8, is_changed: bool, tallies: &mut Tallies)
         requires skips { AreSkipsLearned self.now.members self.now.slots self.now.skipped.items }
         requires member { server < self.now.members.count }
@@ -292,7 +293,7 @@ impl StoredInstances {
     }
 }
 
-// Counts a server's instances between two places where no skipped interval has any.
+// Counts a server's instances from `first` up to, but not including, `stop`. None of them lies in a skipped interval.
 fn tally_slots(slots: &Slots, members: Members, server: u8, first: u32, stop: u32) -> Tally
     requires member { server < members.count }
     requires ahead { first ≤ stop }
@@ -313,7 +314,7 @@ fn tally_slots(slots: &Slots, members: Members, server: u8, first: u32, stop: u3
     tally
 }
 
-// Counts one instance more, which no skipped interval has.
+// Adds one instance that lies in no skipped interval.
 fn tally_slot(slots: &Slots, members: Members, inst: u32, tally: Tally) -> Tally
     requires small { inst < instance_count }
     requires few { tally.open_count ≤ instance_count }

@@ -1,4 +1,4 @@
--- What is told of an accepted event is what the definitions say of it.
+-- Each part of the text about an accepted event is the one that the definitions give.
 use Rattle.std.proofs.Common.{◌≡◌, ℕ, ◌-◌, ◌<◌, ◌≤◌, Bool, true, false, List, [], ◌∷◌, ◌++◌, Option, Some, None, map, cond, length, refl, sym, ap, ◌∙◌, append-nil, arith, length-append, leb}
 use Rattle.std.specs.Prelude.{IfSome, option_map, nat_lt, nat_le, slice_get}
 use Rattle.std.specs.List.{filter}
@@ -49,7 +49,7 @@ small_instance m (Promise from to inst ballot vote) h = h.1
 small_instance m (Propose from inst ballot value) h = h.1
 small_instance m (Learn from inst value) h = h.1
 
--- a message that is delivered is about an instance that there is
+-- a delivered message is about an existing instance
 pub small_heard : (m : Membership) → m.count ≤ most_servers → (w : Trace) → IsReached m w → (e : Event)
     → IfSome (heard_in w e) (λ x. instance_of x < instance_count)
 small_heard m few w r (Deliver k p) = go (slice_get (sent_messages w) k) refl
@@ -75,9 +75,9 @@ notice_same m w v (Deliver k p) h small taken =
     go (Some x) s small taken = ap (notice m v p x s) (taken small)
 notice_same m w v _ h small taken = refl
 
--- ---- what was learned
+-- ---- instances that were learned
 
--- nothing is told of what was sent
+-- a message that was sent adds no line about learning
 one_if : (v : Trace) (a : Bool) (x : Message) → learned_lines v (cond a (Sent x ∷ []) []) ≡ []
 one_if v true x = refl
 one_if v false x = refl
@@ -108,13 +108,13 @@ retried : (m : Membership) (w v : Trace) (p : ℕ) (o : Option ℕ) → learned_
 retried m w v p None = refl
 retried m w v p (Some t) = suggested v p t (free_instance m w p)
 
--- no-op is told alike in all traces
+-- no-op has the same text in all traces
 noop_same : (w v : Trace) (p : ℕ) (js : List ℕ)
     → learned_lines w (map (λ (j : ℕ). Learned p j Noop) js) ≡ learned_lines v (map (λ (j : ℕ). Learned p j Noop) js)
 noop_same w v p [] = refl
 noop_same w v p (j ∷ js) = ap (λ text. learned_in v (Learned p j Noop) ++ text) (noop_same w v p js)
 
--- what was just learned is what the trace says
+-- a value that p has just learned is the learned value in the trace
 module _ (w : Trace) (k p i : ℕ) (x : Value) (unlearned : learned_value w p i ≡ None) where
   just : learned_value (Learned p i x ∷ Heard k p ∷ w) p i ≡ Some x
   just = rw (unlearned, same_two p i) refl
@@ -181,7 +181,7 @@ learned_same m w (Suspect p q) g h = sym (prepared m w (with_event m w (Suspect 
 learned_same m w (Retry p) g h = sym (retried m w (with_event m w (Retry p)) p (slice_get (waiting_tickets w p) 0))
 learned_same m w (Execute p) g h = refl
 
--- ---- what was sent, and what was executed
+-- ---- messages that were sent, and instances that were executed
 
 pub sent_same : (m : Membership) (w : Trace) (e : Event)
     → messages_from (with_event m w e) (length (sent_messages w))

@@ -1,4 +1,4 @@
--- The parts of what is told of an accepted event, put together.
+-- The parts of the text about an accepted event, put together, are the text that the definitions give.
 use Rattle.std.proofs.Common.{◌≡◌, ℕ, ◌-◌, ◌<◌, ◌≤◌, List, ◌++◌, Some, eqb, ◌&&◌, length, sym, ap, subst, ◌∙◌, append_assoc}
 use Rattle.std.specs.Prelude.{IfSome, string_bytes}
 use Rattle.mencius_base.specs.Limits.{instance_count, most_servers}

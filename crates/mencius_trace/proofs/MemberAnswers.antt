@@ -1,4 +1,4 @@
--- Answers about a server that there is.
+-- A question about a member returns the value that the model has for it.
 use Rattle.std.proofs.Common.{◌≡◌, ℕ, ◌<◌, ◌++◌, List, Result, Ok, Err, OnOk, Option, Some, None, cond, Bool, refl, subst, ◌∙◌, ap}
 use Rattle.std.specs.declared.alloc.AllocError.{AllocError}
 use Rattle.std.proofs.lemmas.Bool.{lt-ltb}
@@ -29,7 +29,7 @@ execution_in_is m w p i x h e same =
     let value : Some x ≡ learned_value w p i = same ∙ of_member_is m p (learned_value w p i) h in
     rw (← at, ← value) refl
 
--- the count of a server that there is
+-- for a member, the line with the count is the one that its glance gives
 pub counted_by : (m n : Membership) (w : Trace) (p i j : ℕ) (x : Message) (g : Glance)
     (result : Result (Unit {0}) AllocError) (old new : List ℕ) → i ≡ instance_of x → n ≡ m
     → (i < instance_count → Some g ≡ if_member m p (glance m w p i))

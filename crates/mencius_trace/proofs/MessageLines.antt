@@ -1,4 +1,4 @@
--- The lines of the messages from a number on.
+-- A loop over message numbers writes the lines of the messages from a number on.
 use Rattle.std.proofs.Common.{◌≡◌, ℕ, suc, ◌+◌, ◌-◌, ◌<◌, ◌≤◌, inl, inr, List, [], ◌∷◌, ◌++◌, Some, length, refl, sym, ap, subst, ◌∙◌, append-nil, append_assoc, arith, length-append}
 use Rattle.std.specs.Prelude.{slice_get}
 use Rattle.std.specs.List.{enumerate_from, flat_map, range_with_len}
@@ -10,7 +10,7 @@ use Rattle.mencius_trace.specs.After.{messages_from, of_message, of_messages}
 use Rattle.mencius_trace.specs.Facts.{sent_line}
 use Rattle.mencius_trace.proofs.TextLoops.{range_last}
 
--- a text has the lines of the messages from the first up to a number
+-- `now` is `before` and the lines of the messages from number `first` up to, but not including, n
 pub record IsSentTo (v : Trace) (first end n : ℕ) (before now : List ℕ) : Type 0 where
   pub still : end < first → n ≡ first
   pub text : now ≡ before ++ messages_from v first (n - first)
@@ -23,7 +23,7 @@ messages_start v first end before =
       text = sym (ap (λ n. before ++ messages_from v first n) none ∙ append-nil before);
     }
 
--- one message more
+-- adding the line of message n takes the text one message further
 pub messages_further : (v : Trace) (first end n : ℕ) (before old new : List ℕ) → first ≤ n → n < end
     → IsSentTo v first end n before old → new ≡ old ++ of_message (sent_line v) n (slice_get (sent_messages v) n)
     → IsSentTo v first end (n + 1) before new
@@ -45,7 +45,7 @@ get_here : (xs ys : List Message) (x : Message) → slice_get (xs ++ x ∷ ys) (
 get_here [] ys x = refl
 get_here (y ∷ xs) ys x = get_here xs ys x
 
--- the messages from a place on are those that stand there
+-- the texts of the messages from a place on are the texts of the rest of the list
 pub of_messages_are : (f : ℕ × Message → List ℕ) (xs before ms : List Message) → xs ≡ before ++ ms
     → of_messages f xs (length before) (length ms) ≡ flat_map f (enumerate_from (length before) ms)
 of_messages_are f xs before [] e = refl
@@ -58,7 +58,7 @@ of_messages_are f xs before (x ∷ ms) e =
     ∙ ap (λ text. f (length before, x) ++ text)
     (subst (λ k. of_messages f xs k (length ms) ≡ flat_map f (enumerate_from k ms)) next rest)
 
--- all messages
+-- at the end of the loop, the text has the lines of all messages from number `first` on
 pub messages_whole : (v : Trace) (first end n : ℕ) (before now : List ℕ) → first ≤ n
     → (first ≤ end → n ≤ end) → end ≤ n → end ≡ length (sent_messages v) → IsSentTo v first end n before now
     → now ≡ before ++ messages_from v first (length (sent_messages v) - first)

@@ -1,4 +1,4 @@
--- Where a message was heard or lost, the trace and the stored events say the same.
+-- The trace and the stored events agree on the messages that were heard or lost.
 use Rattle.std.proofs.Common.{◌≡◌, ℕ, zero, suc, ◌+◌, ◌<◌, ◌≤◌, ◌||◌, Bool, true, false, List, [], ◌∷◌, length, get_or, take, Result, Ok, Err, refl, sym, ap, ◌∙◌, arith}
 use Rattle.std.specs.List.{list_any}
 use Rattle.std.proofs.lemmas.Bool.{leb-false}
@@ -34,7 +34,7 @@ begun : (m : Membership) (w v : Trace) (e : Event) (es : List Event) → replay_
     → IsBegun m w v e es
 begun m w v e es h = begun_on m w v e es (next m w e) refl h
 
--- ---- what it settles
+-- ---- the message that an event settles
 
 head_settles : (k p n : ℕ) (e : Event) → is_settled_by k p (head e) ≡ is_settled_by_entry k p (entry_of n e)
 head_settles k p n (Submit q command) = refl
@@ -50,7 +50,7 @@ settles_nothing k p (Sent x) w h = refl
 settles_nothing k p (Learned q i value) w h = refl
 settles_nothing k p _ w h = absurd h
 
--- what is settled after an event
+-- after an event, the settled messages are those settled before and the message that the event settles
 settled-event : (m : Membership) (w : Trace) (e : Event) (k p n : ℕ)
     → list_any (is_settled_by k p) (with_event m w e)
     ≡ (is_settled_by_entry k p (entry_of n e) || list_any (is_settled_by k p) w)
@@ -80,13 +80,13 @@ settled_from m k p n (e ∷ es) w v h =
     ∙ ap (λ known. later || known) (settled-event m w e k p n)
     ∙ or_between (is_settled_by_entry k p (entry_of n e)) later (list_any (is_settled_by k p) w)
 
--- a message was heard or lost where a stored event says so
+-- a message was heard or lost exactly if a stored event says so
 pub settled_by_entries : (m : Membership) (es : List Event) (w : Trace) → replay m es ≡ Ok w → (k p : ℕ)
     → list_any (is_settled_by k p) w ≡ list_any (is_settled_by_entry k p) (entries_of es)
 settled_by_entries m es w h k p =
     settled_from m k p 0 es [] w h ∙ or_none (list_any (is_settled_by_entry k p) (entries_of es))
 
--- ---- its server
+-- ---- the server of an event
 
 of_server : (m : Membership) (w : Trace) (n : ℕ) (e : Event) → m.count ≤ most_servers → NoneHolds (causes m w e)
     → IsOfServer (entry_of n e)
@@ -107,7 +107,7 @@ of_servers_from m n (e ∷ es) w v few h (suc place) d there =
     let first = begun m w v e es h in
     of_servers_from m (n + submission_count e) es first.middle v few first.rest place d (omega arith)
 
--- each stored event is one of a server that there may be
+-- a server that hears or loses a message by a stored event has a number below the greatest number of servers
 pub of_servers : (m : Membership) (es : List Event) (w : Trace) → m.count ≤ most_servers → replay m es ≡ Ok w
     → (xs : List Entry) → xs ≡ entries_of es → (place : ℕ) (d : Entry) → place < length xs
     → IsOfServer (get_or xs place d)
@@ -115,7 +115,7 @@ of_servers m es w few h xs stored place d there =
     let small : place < length (entries_of es) = omega (arith, there, ap length stored) in
     rw stored (of_servers_from m 0 es [] w few h place d small)
 
--- the marks of all stored events
+-- after all stored events, a mark says whether the message was heard or lost in the trace
 pub settled_all : (m : Membership) (es : List Event) (w : Trace) → replay m es ≡ Ok w → (k p : ℕ) (xs : List Entry)
     (place : ℕ) (now : Bool) → xs ≡ entries_of es → length xs ≤ place
     → now ≡ list_any (is_settled_by_entry k p) (take place xs) → now ≡ list_any (is_settled_by k p) w

@@ -1,4 +1,4 @@
--- The lines of the instances that a Skip makes a server learn, instance after instance.
+-- A loop over instances writes the lines of the instances that a Skip makes a server learn.
 use Rattle.std.proofs.Common.{◌≡◌, ℕ, ◌+◌, ◌-◌, ◌<◌, ◌≤◌, Bool, true, false, List, [], ◌∷◌, ◌++◌, map, cond, eqb, ◌&&◌, refl, sym, ap, ◌∙◌, append-nil, append_assoc, arith}
 use Rattle.std.specs.Prelude.{nat_le, nat_lt, is_none}
 use Rattle.std.specs.List.{filter}
@@ -16,7 +16,7 @@ use Rattle.mencius_trace.specs.Facts.{learned_line}
 use Rattle.mencius_trace.specs.Effects.{learned_in, learned_lines}
 use Rattle.mencius_model.proofs.trace.Parts.{is_newly_skipped, on_skip}
 
--- those below a place
+-- the lines of the instances below n that pass a test, with no-op as the value that p learned
 abbrev pub skipped_below : (ℕ → Bool) → Trace → ℕ → ℕ → List ℕ
 skipped_below test w p n = learned_lines w (map (λ j. Learned p j Noop) (filter test (numbers_below n)))
 
@@ -35,7 +35,7 @@ skipped-more test w p i a e =
     last true = append-nil (learned_line w p i Noop)
     last false = refl
 
--- in the range the owner and what is learned decide
+-- an instance in the range of a Skip is newly skipped exactly if q owns it and p has not learned it
 in_range : (m : Membership) (w : Trace) (p q first stop j : ℕ) → first ≤ j → j < stop
     → is_newly_skipped m w p q first stop j ≡ (eqb (owner m j) q && is_none (learned_value w p j))
 in_range m w p q first stop j low high =
@@ -60,7 +60,8 @@ late m w p q first stop j h = rw (le-ltb j stop h) (by (eqb q (owner m j) && nat
     by true = refl
     by false = refl
 
--- a text has the lines of the instances from the first up to a place
+-- `now` is `before` and the lines of the skipped instances below i, if p is a member and `first` is an existing
+-- instance
 pub record IsSkippedTo (m : Membership) (w : Trace) (p q first stop i : ℕ) (before now : List ℕ) : Type 0 where
   pub text : IsMember m p → first < instance_count
       → (i ≤ instance_count) × (now ≡ before ++ skipped_below (is_newly_skipped m w p q first stop) w p i)

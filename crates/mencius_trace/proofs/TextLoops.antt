@@ -1,4 +1,4 @@
--- One more round of a loop that writes a text.
+-- Each round of a loop that writes a text adds the next part of the text.
 use Rattle.std.proofs.Common.{◌≡◌, ℕ, zero, suc, ◌+◌, Bool, true, false, List, [], ◌∷◌, ◌++◌, Option, Some, None, ◌||◌, ap, sym, ◌∙◌, refl, append-nil, append_assoc, arith, filter_map}
 use Rattle.std.specs.Prelude.{codes, is_some}
 use Rattle.std.specs.List.{cons_option, flat_map, range_with_len}
@@ -12,7 +12,7 @@ use Rattle.mencius_model.proofs.trace.NumberLists.{below-more, instances-below}
 use Rattle.mencius_trace.specs.Closing.{ticket_in}
 use Rattle.mencius_trace.specs.Words.{ticket_text, tickets_text}
 
--- one number more
+-- a range with one more number ends with that number
 pub range_last : (a n j : ℕ) → a + n ≡ j → range_with_len a (suc n) ≡ range_with_len a n ++ j ∷ []
 range_last a zero j e = let same : a ≡ j = omega arith in ap (λ x. x ∷ []) same
 range_last a (suc n) j e = ap (λ l. a ∷ l) (range_last (a + 1) n j (omega arith))
@@ -26,7 +26,7 @@ texts_more f n =
     ∙ flat_map-append f (range_with_len 0 n) (n ∷ [])
     ∙ ap (λ text. flat_map f (range_with_len 0 n) ++ text) (append-nil (f n))
 
--- a text that had the first of these texts, and then got the next
+-- a text with the first n parts has the first n + 1 parts after the next part is added
 pub texts_further : (f : ℕ → List ℕ) (n : ℕ) (before old new : List ℕ)
     → old ≡ before ++ flat_map f (range_with_len 0 n) → new ≡ old ++ f n
     → new ≡ before ++ flat_map f (range_with_len 0 (n + 1))
@@ -39,7 +39,7 @@ texts_further f n before old new had got =
 abbrev spaced_ticket : Trace → ℕ → List ℕ
 spaced_ticket w t = 32 ∷ ticket_text w t
 
--- those of the instances below a place
+-- the tickets that wait at p because of an instance below n
 abbrev pub waiting_below : Trace → ℕ → ℕ → List ℕ
 waiting_below w p n = filter_map (waiting_at w p) (numbers_below n)
 
@@ -47,7 +47,7 @@ abbrev pub is_some_list : List ℕ → Bool
 is_some_list [] = false
 is_some_list (t ∷ ts) = true
 
--- a text has the tickets of the instances below a place, and it is known whether there are any
+-- `now` is `before` and the tickets that wait because of an instance below i, and `some` says whether there are any
 pub record IsWaitingTo (w : Trace) (p i : ℕ) (some : Bool) (before now : List ℕ) : Type 0 where
   pub text : now ≡ before ++ flat_map (spaced_ticket w) (waiting_below w p i)
   pub some_is : some ≡ is_some_list (waiting_below w p i)

@@ -1,4 +1,4 @@
--- Schedules worked by hand, and the texts that the definitions make of them.
+-- The definitions give the expected texts for schedules that were worked by hand.
 use Rattle.std.proofs.Common.{◌≡◌, ℕ, List, [], ◌∷◌, ◌++◌, Some, None, refl, ap, ◌∙◌, nat_cmp}
 use Rattle.std.specs.Prelude.{codes}
 use Rattle.std.specs.Cmp.Lexicographic.{slice_cmp, nat_list_cmp_total}
@@ -21,7 +21,7 @@ three = new_members 3
 abbrev one : Membership
 one = new_members 1
 
--- lines, each with its end
+-- the text of these lines, with an end of line after each
 abbrev text_of : List (List ℕ) → List ℕ
 text_of ls = flat_map (λ l. l ++ codes "\n") ls
 
@@ -29,15 +29,15 @@ text_of ls = flat_map (λ l. l ++ codes "\n") ls
 abbrev set_a : Command
 set_a = record { id = record { client = 1; number = 0 }; op = Set (97 ∷ []) (120 ∷ []) }
 
--- no map computes: the empty one holds nothing at the key `a`
+-- the empty map holds nothing at the key `a`. Maps do not compute, so a lemma says this
 nothing : finite.get (map_after []) (97 ∷ []) ≡ None
 nothing = get-empty {X = List ℕ} (slice_cmp nat_cmp) (97 ∷ [])
 
--- and after the first command it holds `x` there
+-- the map holds `x` at the key `a` after the first command
 text_x : finite.get (map_after (set_a ∷ [])) (97 ∷ []) ≡ Some (120 ∷ [])
 text_x = get-insert nat_list_cmp_total (map_after []) (97 ∷ []) (120 ∷ []) (97 ∷ [])
 
--- a server that is wrongly suspected: the revoker hears of the command and has to propose it, and its home gives the
+-- a server is wrongly suspected. The revoker hears of its command and must propose it, and the command's home gives the
 -- reply
 abbrev wrong_suspicion : List Event
 wrong_suspicion =
@@ -98,7 +98,7 @@ text-wrong_suspicion : trace_text three wrong_suspicion ≡ text_wrong_suspicion
 unfolding numbers_below digits instances most_messages most_events
 text-wrong_suspicion = ap (λ o. text_wrong_suspicion (former_text o)) nothing
 
--- a suggestion comes where no-op is decided: nobody answers it, and its ticket waits
+-- a suggestion comes to an instance at which no-op is decided. No server replies to it, and its ticket waits
 abbrev late_suggestion : List Event
 late_suggestion =
     Suspect 1 0 ∷ Deliver 0 1 ∷ Deliver 0 2 ∷ Deliver 1 1 ∷ Deliver 2 1 ∷ Deliver 3 1 ∷ Deliver 3 2 ∷ Deliver 4 1
@@ -148,7 +148,7 @@ text-late_suggestion : trace_text three late_suggestion ≡ text_of
 unfolding numbers_below digits instances most_messages most_events
 text-late_suggestion = refl
 
--- and there, further on, it is decided
+-- a ticket that lost its instance to no-op is suggested again at a later instance, and is decided there
 abbrev suggested_again : List Event
 suggested_again =
     Suspect 1 0 ∷ Deliver 0 1 ∷ Deliver 0 2 ∷ Deliver 1 1 ∷ Deliver 2 1 ∷ Deliver 3 1 ∷ Deliver 3 2 ∷ Deliver 4 1
@@ -243,7 +243,7 @@ text-suggested_again : trace_text three suggested_again ≡ text_suggested_again
 unfolding numbers_below digits instances most_messages most_events
 text-suggested_again = ap (λ o. text_suggested_again (former_text o)) nothing
 
--- two servers give up their instances before a suggestion, and one Skip comes twice
+-- two servers skip their instances below a suggestion, and one Skip is delivered twice
 abbrev skip_before_a_suggestion : List Event
 skip_before_a_suggestion =
     Submit 2 set_a ∷ Deliver 0 0 ∷ Deliver 0 1 ∷ Deliver 1 2 ∷ Deliver 3 2 ∷ Deliver 2 2 ∷ Deliver 4 2 ∷ Execute 2
@@ -299,7 +299,7 @@ text-skip_before_a_suggestion : trace_text three skip_before_a_suggestion ≡ te
 unfolding numbers_below digits instances most_messages most_events
 text-skip_before_a_suggestion = ap (λ o. text_skip_before_a_suggestion (former_text o)) nothing
 
--- two servers revoke one instance at once: the greater ballot goes on
+-- two servers revoke the same instance at the same time, and the greater ballot wins
 abbrev duelling_revokers : List Event
 duelling_revokers =
     Suspect 1 0 ∷ Suspect 2 0 ∷ Deliver 0 1 ∷ Deliver 0 0 ∷ Deliver 2 1 ∷ Deliver 3 1 ∷ Deliver 1 0 ∷ Deliver 4 0
@@ -364,7 +364,7 @@ text-duelling_revokers : trace_text three duelling_revokers ≡ text_of
 unfolding numbers_below digits instances most_messages most_events
 text-duelling_revokers = refl
 
--- a promise too many, a promise of a ballot that is no longer tried, and a loss
+-- a promise comes after the proposal, a promise comes for a ballot that is no longer tried, and a message is lost
 abbrev other_reasons : List Event
 other_reasons =
     Suspect 1 0 ∷ Deliver 0 0 ∷ Deliver 0 1 ∷ Deliver 0 2 ∷ Deliver 1 1 ∷ Deliver 2 1 ∷ Deliver 3 1 ∷ Suspect 1 0
@@ -406,11 +406,11 @@ text-other_reasons : trace_text three other_reasons ≡ text_of
 unfolding numbers_below digits instances most_messages most_events
 text-other_reasons = refl
 
--- the same client asks for what `a` is bound to
+-- client 1 reads the key `a`
 abbrev get_a : Command
 get_a = record { id = record { client = 1; number = 1 }; op = Get (97 ∷ []) }
 
--- one server, which replies with the text that it has
+-- a cluster of one server replies to a read with the text that was set before
 abbrev told_back : List Event
 told_back =
     Submit 0 set_a ∷ Deliver 0 0 ∷ Deliver 1 0 ∷ Execute 0 ∷ Submit 0 get_a ∷ Deliver 3 0 ∷ Deliver 4 0 ∷ Execute 0 ∷ []

@@ -1,4 +1,4 @@
--- What is noted before an event, so that what came of it can be told after it.
+-- The notes taken before an event, so that its effects can be shown after it.
 use Rattle.std.specs.Prelude.{◌≡◌, Ok, ℕ, ◌<◌, Bool, false, List, [], Option, Some, None, option_map, slice_get, string_bytes, IfSome, map, is_none, ◌&&◌}
 use Rattle.mencius_model.specs.Rules.{is_skipped_by}
 use Rattle.std.specs.List.{filter}
@@ -22,12 +22,12 @@ use Rattle.mencius_trace.specs.declared.before.Before.{Before}
 use Rattle.mencius_trace.specs.declared.reaction.Reaction.{Reaction}
 use Rattle.mencius_trace.specs.Effects.{reaction, instance_of, is_pending, learned_lines}
 
--- the message that an event delivers
+-- the message that an event delivers, if any
 abbrev pub heard_in : Trace → Event → Option Message
 heard_in w (Deliver k p) = slice_get (sent_messages w) k
 heard_in w _ = None
 
--- the lines of the instances that a Skip makes the server learn
+-- the lines of the instances that a Skip makes p learn
 abbrev pub skipped_text : Membership → Trace → ServerId → Option Message → List ℕ
 skipped_text m w p (Some (Skip from first stop)) =
     learned_lines w
@@ -35,7 +35,7 @@ skipped_text m w p (Some (Skip from first stop)) =
     (filter (λ i. is_skipped_by m i (Skip from first stop) && is_none (learned_value w p i)) instances))
 skipped_text m w p _ = []
 
--- the instance that an event executes, with its value
+-- the instance that an event executes, with its value, if any
 abbrev pub execution_in : Trace → Event → Option (Inst × Value)
 execution_in w (Execute p) = option_map (λ x. (done w p, x)) (learned_value w p (done w p))
 execution_in w _ = None
@@ -45,16 +45,17 @@ abbrev pub is_awaited : Trace → Option (Inst × Value) → Bool
 is_awaited w (Some (i, Ticket t)) = is_pending w (command_at w t)
 is_awaited w _ = false
 
--- how a message is taken, where the server is one and the message is within its limits
+-- if p is a member and the message heard is about an existing instance, h is p's reaction to it
 abbrev pub IsReaction : Membership → Trace → ServerId → Option Message → Reaction → Type 0
 IsReaction m w p heard h = IsMember m p → IfSome heard (λ x. instance_of x < instance_count → h ≡ reaction m w p x)
 
--- the lines of what a Skip teaches, likewise
+-- if p is a member and the message heard is about an existing instance, `text` has the lines of the instances that it
+-- makes p learn as a Skip
 abbrev pub IsSkippedText : Membership → Trace → ServerId → Option Message → List ℕ → Type 0
 IsSkippedText m w p heard text =
     IsMember m p → IfSome heard (λ x. instance_of x < instance_count) → text ≡ skipped_text m w p heard
 
--- the notes are those of this event
+-- the notes are right for the event e at the cluster x, whose journal replays
 pub record IsBefore (x : ClusterState) (e : Event) (notes : Before) : Type 0 where
   pub replays : replay x.members x.journal ≡ Ok (trace_of x)
   pub server : notes.server ≡ server_of e

@@ -1,4 +1,4 @@
--- What is told of an event: w is the trace before it and v the trace after it.
+-- The lines of an event. The trace before the event is w, and the trace after it is v.
 use Rattle.std.specs.Prelude.{true, false, ℕ, Bool, List, [], ◌++◌, codes, decimal, length, Option, Some, None, Result, Ok, Err, ◌==◌, ◌&&◌, if◌then◌else◌, slice_get}
 use Rattle.std.specs.List.{enumerate_from, flat_map}
 use Rattle.mencius_base.specs.Numbers.{ServerId, Inst, BallotNo, MessageNo}
@@ -25,23 +25,23 @@ use Rattle.mencius_trace.specs.declared.reaction.Reaction.TheVariants.{Effective
 use Rattle.mencius_trace.specs.Facts.{event_line, executed_line, front_line, learned_line, refused_line, sent_line, tally_line, value_text}
 use Rattle.mencius_trace.specs.Words.{answer_line}
 
--- ---- what a server makes of a message
+-- ---- the reaction to a message
 
--- what is learned comes first
+-- the reaction `Learned` with the value that was learned before, or otherwise the given reaction
 abbrev pub learned_or : Option Value → Reaction → Reaction
 learned_or (Some x) otherwise = LearnedBefore x
 learned_or None otherwise = otherwise
 
--- a proposal that was made already comes before a count
+-- the reaction `Proposed` if a value was proposed before, and otherwise the given reaction
 abbrev pub proposed_or : Option Value → Reaction → Reaction
 proposed_or (Some x) otherwise = Proposed
 proposed_or None otherwise = otherwise
 
--- only a word about the ballot that is tried counts
+-- the reaction if b is the ballot tried, and otherwise `Tries` with the ballot tried
 abbrev pub if_tried : BallotNo → BallotNo → Reaction → Reaction
 if_tried b tried reaction = if b == tried then reaction else Tries tried
 
--- the instance of a message, or the first one
+-- the instance of a message, or the first instance of a Skip
 abbrev pub instance_of : Message → Inst
 instance_of (Suggest from inst ticket) = inst
 instance_of (Skip from first stop) = first
@@ -51,7 +51,7 @@ instance_of (Promise from to inst ballot vote) = inst
 instance_of (Propose from inst ballot value) = inst
 instance_of (Learn from inst value) = inst
 
--- how a server that knows this of the instance takes a message, so far as it does not answer it
+-- the reaction to a message of a server with this knowledge of the instance, apart from its reply
 abbrev pub reaction_at : Glance → Message → Reaction
 reaction_at g (Suggest from inst ticket) = Promised g.promised
 reaction_at g (Skip from first stop) = learned_or g.learned Effective
@@ -62,17 +62,18 @@ reaction_at g (Promise from to inst ballot vote) =
 reaction_at g (Propose from inst ballot value) = Promised g.promised
 reaction_at g (Learn from inst value) = learned_or g.learned Effective
 
--- what p knows of an instance, in short
+-- the knowledge of p about instance i, with counts in place of sets
 abbrev pub glance : Membership → Trace → ServerId → Inst → Glance
 glance m w p i = glance_of (slot_at m w p i)
 
--- how p takes a message
+-- the reaction of p to a message
 abbrev pub reaction : Membership → Trace → ServerId → Message → Reaction
 reaction m w p x = reaction_at (glance m w p (instance_of x)) x
 
--- ---- what is said of it
+-- ---- the notice about a message
 
--- of how many servers p, which knows this of the instance, heard the promise or the acceptance
+-- the line with the number of servers whose promises or acceptances p counted, if the message is a promise or an
+-- acceptance
 abbrev pub count_line : Membership → ServerId → Glance → Message → List ℕ
 count_line m p g (Promise from to inst ballot vote) =
     tally_line (codes "promises") p inst ballot g.promise_count (majority m)
@@ -80,7 +81,7 @@ count_line m p g (Accepted from to inst ballot) =
     tally_line (codes "acceptances") p inst ballot g.acceptance_count (majority m)
 count_line m p g _ = []
 
--- why nothing came of a message
+-- the reason why a message had no effect
 abbrev pub reason_text : Trace → Reaction → List ℕ
 reason_text v (Promised ballot) = codes "promised " ++ decimal ballot
 reason_text v (Tries ballot) = codes "tries " ++ decimal ballot
@@ -88,81 +89,91 @@ reason_text v (LearnedBefore value) = codes "learned " ++ value_text v value
 reason_text v Proposed = codes "proposed already"
 reason_text v _ = []
 
+-- the line with the reason why a message had no effect
 abbrev pub ignored_line : Trace → Reaction → List ℕ
 ignored_line v reaction = codes "ignored " ++ reason_text v reaction ++ codes "\n"
 
--- the count, where the message counts; the reason, where nothing was sent and nothing learned
+-- the line with the count if the message counts, or the line with the reason if there is one and the message is
+-- ignored. Otherwise it is empty
 abbrev pub notice : Membership → Trace → ServerId → Message → Bool → Reaction → List ℕ
 notice m v p x is_ignored Effective = []
 notice m v p x is_ignored Counted = count_line m p (glance m v p (instance_of x)) x
 notice m v p x is_ignored reaction = if is_ignored then ignored_line v reaction else []
 
--- nothing is sent and nothing is learned
+-- whether these lines send no message and teach no instance
 abbrev pub is_ignored : List Line → Bool
 is_ignored ls = length (messages_of ls) == 0 && learned_count ls == 0
 
+-- the notice about a message that p hears, if any
 abbrev pub notice_of : Membership → Trace → Trace → ServerId → Bool → Option Message → List ℕ
 notice_of m w v p is_ignored None = []
 notice_of m w v p is_ignored (Some x) = notice m v p x is_ignored (reaction m w p x)
 
+-- the notice about the message that an event delivers, if any
 abbrev pub notices : Membership → Trace → Trace → Event → List ℕ
 notices m w v (Deliver k p) = notice_of m w v p (is_ignored (lines m w (Deliver k p))) (slice_get (sent_messages w) k)
 notices m w v _ = []
 
--- ---- what came of an event
+-- ---- the effects of an event
 
+-- the line about a value that was learned, and nothing for any other line of a trace
 abbrev pub learned_in : Trace → Line → List ℕ
 learned_in v (Learned p i value) = learned_line v p i value
 learned_in v _ = []
 
--- what was learned, by rising instance
+-- the lines about the instances that `ls` teaches, in the same order. An event teaches instances in rising order
 abbrev pub learned_lines : Trace → List Line → List ℕ
 learned_lines v ls = flat_map (learned_in v) ls
 
--- what was sent, the first with number k
+-- the lines about the messages that `ls` sends. The first message has number k
 abbrev pub sent_lines : Trace → MessageNo → List Line → List ℕ
 sent_lines v k ls = flat_map (sent_line v) (enumerate_from k (messages_of ls))
 
--- the front where it moved
+-- the line about p's front, if it moved
 abbrev pub front_lines : ServerId → Inst → Inst → List ℕ
 front_lines p old new = if old == new then [] else front_line p new
 
+-- whether a command is answered by `Pending`
 abbrev pub is_not_yet : Option Answered → Bool
 is_not_yet (Some Pending) = true
 is_not_yet _ = false
 
--- the command has no reply yet
+-- whether there is a command, and it has no reply yet
 abbrev pub is_pending : Trace → Option Command → Bool
 is_pending w None = false
 is_pending w (Some command) = is_not_yet (reply_of w command.id)
 
+-- the line of a reply, if it is given
 abbrev pub given_line : CommandId → Option Answered → List ℕ
 given_line id (Some (Given former)) = answer_line id (Some (Given former))
 given_line id _ = []
 
+-- the line of the reply to a command, if there is a command and its reply is given
 abbrev pub given_to : Trace → Option Command → List ℕ
 given_to v None = []
 given_to v (Some command) = given_line command.id (reply_of v command.id)
 
--- the reply, where the command was waiting for it
+-- the line of the reply to the command of a ticket, if the command waited for it
 abbrev pub awaited_lines : Trace → Bool → Value → List ℕ
 awaited_lines v is_awaited Noop = []
 awaited_lines v is_awaited (Ticket t) = if is_awaited then given_to v (command_at v t) else []
 
--- a reply that was not given before
+-- the line of the reply to the command of a ticket, if the reply was not given before the event
 abbrev pub reply_lines : Trace → Trace → Value → List ℕ
 reply_lines w v Noop = []
 reply_lines w v (Ticket t) = awaited_lines v (is_pending w (command_at w t)) (Ticket t)
 
+-- the lines about the value that p executes at i, if any, and the reply to its command
 abbrev pub execution_lines_of : Trace → Trace → ServerId → Inst → Option Value → List ℕ
 execution_lines_of w v p i None = []
 execution_lines_of w v p i (Some value) = executed_line v p i value ++ reply_lines w v value
 
+-- the lines about the instance that an event executes, if any
 abbrev pub execution_lines : Trace → Trace → Event → List ℕ
 execution_lines w v (Execute p) = execution_lines_of w v p (done w p) (learned_value w p (done w p))
 execution_lines w v _ = []
 
--- all that came of an accepted event
+-- the lines about all effects of an accepted event
 abbrev pub effect_text : Membership → Trace → Trace → Event → List ℕ
 effect_text m w v e =
     notices m w v e
@@ -171,11 +182,11 @@ effect_text m w v e =
     ++ front_lines (server_of e) (front m w (server_of e)) (front m v (server_of e))
     ++ execution_lines w v e
 
--- what came of an event, or why it was refused
+-- the lines about the effects of an event, or about its refusal
 abbrev pub outcome_text : Membership → Trace → Event → Result Trace Refusal → List ℕ
 outcome_text m w e (Ok v) = effect_text m w v e
 outcome_text m w e (Err refusal) = refused_line refusal
 
--- an event, by its place, with its outcome
+-- the line of an event with its place, and the lines about its outcome
 abbrev pub event_lines : Membership → Trace → ℕ → Event → List ℕ
 event_lines m w place e = event_line place e ++ outcome_text m w e (next m w e)

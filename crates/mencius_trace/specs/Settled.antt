@@ -1,4 +1,4 @@
--- Which messages were heard or lost, by the stored events.
+-- The messages that were heard or lost, according to the stored events.
 use Rattle.std.specs.Prelude.{◌≡◌, ◌<◌, Bool, false, IfSome, Option, Some, None}
 use Rattle.std.specs.List.{list_any}
 use Rattle.std.specs.Option.{option_map_or}
@@ -11,20 +11,20 @@ use Rattle.mencius_model.specs.Trace.{Lost, Trace}
 use Rattle.mencius_model.specs.Next.{is_loss}
 use Rattle.mencius_trace.specs.Closing.{is_settled_by}
 
--- the message that an event settles, and the server that hears or loses it
+-- the message that a stored event delivers or loses, and the server that hears or loses it
 abbrev pub settled_pair : Entry → Option (MessageNo × ServerId)
 settled_pair (Deliver message server) = Some (message, server)
 settled_pair (Lose message server) = Some (message, server)
 settled_pair _ = None
 
--- by this event p heard or lost message k
+-- whether p heard or lost message k by this stored event
 abbrev pub is_settled_by_entry : MessageNo → ServerId → Entry → Bool
 is_settled_by_entry k p x = option_map_or (λ pair. is_loss k p (Lost pair.0 pair.1)) (settled_pair x) false
 
--- the server that hears or loses is one that there may be
+-- if a server hears or loses a message by this stored event, its number is below the greatest number of servers
 abbrev pub IsOfServer : Entry → Type 0
 IsOfServer x = IfSome (settled_pair x) (λ pair. pair.1 < most_servers)
 
--- a mark stands where a server heard or lost a message, and nowhere else
+-- there is a mark for a message and a server exactly if the server heard or lost the message
 abbrev pub AreSettled : Trace → MessageBitsState → Type 0
 AreSettled w marks = (k : MessageNo) (p : ServerId) → has_bit_in marks k p ≡ list_any (is_settled_by k p) w

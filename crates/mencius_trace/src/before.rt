@@ -1,4 +1,4 @@
-//! What is noted before an event, so that what came of it can be told after it.
+//! The notes taken before an event, so that its effects can be shown after it.
 
 ghost use Rattle.std.specs.Prelude.{◌≡◌, ◌<◌, ◌++◌, ◌&&◌, [], IfOk, OnOk, if◌then◌else◌, is_none, map, string_bytes};
 ghost use Rattle.std.specs.List.{filter};
@@ -21,26 +21,26 @@ use mencius_base::{Ballot, Event, INSTANCES, Message, Value, Vote};
 use mencius_cluster::{Answered, Cluster, Glance};
 use std::alloc::{AllocError, Global};
 
-/// What is noted before an event.
+/// The notes taken before an event.
 #[derive(Drop)]
 pub(crate) struct Before {
     /// The server that the event happens at.
     pub(crate) server: u8,
-    /// Its front.
+    /// The front of the server that the event happens at.
     pub(crate) front: Option<u32>,
-    /// The message that is delivered.
+    /// The message that the event delivers.
     pub(crate) heard: Option<Message>,
-    /// How the server takes it.
+    /// The reaction of the server to the message that the event delivers.
     pub(crate) reaction: Reaction,
     /// The lines of the instances that a Skip makes the server learn.
     pub(crate) skipped_text: String,
-    /// The instance that is executed, with its value.
+    /// The instance that the event executes, with its value.
     pub(crate) execution: Option<(u32, Value)>,
-    /// Whether the command there has no reply yet.
+    /// Whether the command that the event executes has no reply yet.
     pub(crate) is_awaited: bool,
 }
 
-/// Notes what stands before an event.
+/// Takes the notes before an event.
 pub(crate) fn note(alloc: Global, cluster: &Cluster, event: &Event) -> Result<Before, AllocError>
     ensures { IfOk result (IsBefore cluster.now event.now) }
 {
@@ -118,7 +118,7 @@ fn reaction_in(cluster: &Cluster, server: u8, heard: &Option<Message>) -> Reacti
     }
 }
 
-/// How a server takes a message.
+/// Returns the reaction of a server to a message.
 fn reaction_of(cluster: &Cluster, server: u8, message: &Message) -> Reaction
     ensures { IsMember cluster.now.members server → instance_of message.now < instance_count
         → result ≡ reaction cluster.now.members (trace_of cluster.now) server message.now }
@@ -157,7 +157,7 @@ fn reaction_at(glance: &Glance, message: &Message) -> Reaction
     }
 }
 
-// A promise counts where nothing was proposed yet.
+// A promise counts only if the server has not proposed a value yet.
 fn counted(proposal: Option<Value>) -> Reaction
     ensures { result ≡ proposed_or proposal Reaction.Counted }
 {
@@ -200,7 +200,7 @@ fn if_tried(ballot: Ballot, tried: Ballot, reaction: Reaction) -> Reaction
     }
 }
 
-/// The lines of the instances that a Skip makes a server learn.
+/// Returns the lines of the instances that a Skip makes a server learn.
 fn skipped_text_in(
     alloc: Global,
     cluster: &Cluster,
@@ -240,7 +240,7 @@ fn push_skipped(
     Ok(())
 }
 
-// Adds the line of an instance that the server has not learned, if it is wanted.
+// Adds the line of an instance, if it is wanted and the server has not learned the instance.
 fn push_where_unlearned(
     text: &mut String,
     cluster: &Cluster,

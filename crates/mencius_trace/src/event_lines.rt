@@ -1,4 +1,4 @@
-//! What came of an event.
+//! The lines of an event.
 
 ghost use Rattle.std.specs.Prelude.{ℕ, ◌≡◌, ◌≢◌, ◌==◌, ◌&&◌, false, slice_get, ◌<◌, ◌++◌, ◌-◌, [], Some, IfErr, IfSome, OnOk, length, string_bytes};
 ghost use Rattle.std.specs.Result.{result_unwrap_or};
@@ -28,7 +28,7 @@ use mencius_cluster::{Answered, Cluster, Effect, Glance};
 use mencius_format::push_id;
 use std::alloc::{AllocError, Global};
 
-/// Steps a cluster by an event, and adds the event and what came of it to a text.
+/// Steps a cluster by the event at `place`. Adds the event, and its effects or its refusal, to a text.
 pub fn tell(
     alloc: Global,
     text: &mut String,
@@ -60,7 +60,7 @@ fn push_refusal(text: &mut String, refusal: Refusal) -> Result<(), NoMemory>
     Ok(())
 }
 
-// All that came of an accepted event.
+// Adds all effects of an accepted event.
 fn push_effect(
     text: &mut String,
     cluster: &Cluster,
@@ -288,7 +288,7 @@ fn push_learned_at(
     }
 }
 
-// The lines of the messages from a number on.
+// Adds the lines of the messages from number `first` on.
 fn push_sent_lines(text: &mut String, cluster: &Cluster, first: u32) -> Result<(), AllocError>
     ensures { OnOk result (string_bytes text.new ≡ string_bytes text.old
         ++ messages_from (trace_of cluster.now) first

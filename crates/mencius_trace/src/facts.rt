@@ -1,4 +1,4 @@
-//! The lines of a printed trace, one fact each.
+//! The lines of a printed trace. Each line states one fact.
 
 ghost use Rattle.std.specs.Prelude.{◌≡◌, ◌++◌, ◌∷◌, decimal, string_bytes, OnOk};
 ghost use Rattle.mencius_cluster.specs.State.{trace_of};
@@ -10,7 +10,7 @@ use mencius_cluster::Cluster;
 use mencius_format::push_event;
 use std::alloc::AllocError;
 
-/// Adds a value to a text: a command by its identity.
+/// Adds a value to a text. A command is shown by its identity.
 pub(crate) fn push_value(
     text: &mut String,
     cluster: &Cluster,
@@ -120,7 +120,7 @@ fn push_content(text: &mut String, cluster: &Cluster, message: Message) -> Resul
     }
 }
 
-/// Adds the line of a message that was sent.
+/// Adds the line of a message that was sent, with its number.
 pub(crate) fn push_sent(
     text: &mut String,
     cluster: &Cluster,
@@ -137,7 +137,7 @@ pub(crate) fn push_sent(
     text.push('\n')
 }
 
-/// Adds the line of an event, by its place among all events.
+/// Adds the line of an event, with its place among all events.
 pub(crate) fn push_event_line(
     text: &mut String,
     place: usize,
@@ -195,7 +195,8 @@ pub(crate) fn push_front(text: &mut String, server: u8, front: u32) -> Result<()
     writeln!(text, "front {server} {front}")
 }
 
-/// Adds how many servers' words of one kind were counted, and how many are a majority.
+/// Adds the line with the number of servers whose promises or acceptances were counted, and the number of servers that
+/// is a majority.
 pub(crate) fn push_tally(
     text: &mut String,
     kind: &str,

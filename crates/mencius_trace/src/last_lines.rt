@@ -1,4 +1,4 @@
-//! What is told after the last event.
+//! The lines after the last event.
 
 ghost use Rattle.std.specs.Prelude.{◌≡◌, ◌<◌, ◌++◌, IfOk, OnOk, is_some, string_bytes};
 ghost use Rattle.mencius_base.specs.Limits.{instance_count};
@@ -14,10 +14,10 @@ use mencius_base::{INSTANCES, NoMemory};
 use mencius_cluster::Cluster;
 use std::alloc::{AllocError, Global};
 
-/// Adds what is told after the last event: a line for each server, and one for each message and
-/// each server that it goes to, where the server neither heard nor lost it.
+/// Adds the lines after the last event. There is a line for each server. There is also a line for each message and each
+/// server that it goes to, if the server neither heard nor lost it.
 ///
-/// The time that it takes, and the memory beside the text, grow with the length of the journal.
+/// The running time, and the memory besides the text, grow with the length of the journal.
 pub fn push_closing(alloc: Global, text: &mut String, cluster: &Cluster) -> Result<(), NoMemory>
     ensures { OnOk result (string_bytes text.new ≡ string_bytes text.old
         ++ closing_text cluster.now.members (trace_of cluster.now)) }
@@ -26,7 +26,7 @@ pub fn push_closing(alloc: Global, text: &mut String, cluster: &Cluster) -> Resu
     push_unheard(alloc, text, cluster)
 }
 
-// A line for each server: its front, how far it is, and the tickets that wait at it.
+// Adds a line for each server, with its front, its progress and the tickets that wait at it.
 fn push_servers(text: &mut String, cluster: &Cluster) -> Result<(), AllocError>
     ensures { OnOk result (string_bytes text.new ≡ string_bytes text.old
         ++ server_lines cluster.now.members (trace_of cluster.now)) }
@@ -63,7 +63,7 @@ fn push_progress(text: &mut String, server: u8, front: u32, done: u32) -> Result
     )
 }
 
-// The tickets that wait at a server, or a dash.
+// Adds the tickets that wait at a server, or a dash if none waits.
 fn push_waiting(text: &mut String, cluster: &Cluster, server: u8) -> Result<(), AllocError>
     requires { IsMember cluster.now.members server }
     ensures { OnOk result (string_bytes text.new ≡ string_bytes text.old
@@ -79,7 +79,7 @@ fn push_waiting(text: &mut String, cluster: &Cluster, server: u8) -> Result<(), 
     Ok(())
 }
 
-// The ticket that waits since the server lost an instance, and whether one does.
+// Adds the ticket that waits because the server lost this instance, if there is one. Returns whether there is one.
 fn push_waiting_at(
     text: &mut String,
     cluster: &Cluster,

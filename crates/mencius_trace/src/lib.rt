@@ -1,4 +1,4 @@
-//! What each event of a schedule did, one fact a line.
+//! The text of a trace. It shows each event of a schedule and its effects, with one fact in each line.
 #![tactic(auto)]
 
 mod before;

@@ -1,20 +1,21 @@
-//! How a server takes a message.
+//! The reaction of a server to a message.
 
 use mencius_base::{Ballot, Value};
 
-/// How a server takes a message that it hears, so far as it does not answer it.
+/// The reaction of a server to a message that it hears, apart from its reply. The variants after `Counted` are reasons,
+/// which are shown only if the message had no effect.
 #[derive(Clone, Copy, Debug, PartialEq, Eq)]
 pub enum Reaction {
-    /// Nothing is to be said of it.
+    /// There is nothing to say about the message.
     Effective,
-    /// It is a promise or an acceptance that counts.
+    /// The message is a promise or an acceptance that counts.
     Counted,
-    /// This ballot was promised before.
+    /// The server has already promised this ballot.
     Promised(Ballot),
-    /// Another ballot than the message's is tried.
+    /// The server tries this ballot, which is not the message's ballot.
     Tries(Ballot),
-    /// The value is learned already.
+    /// The server has already learned this value.
     Learned(Value),
-    /// A value was proposed at the ballot already.
+    /// The server has already proposed a value at the ballot.
     Proposed,
 }

@@ -15,8 +15,8 @@ use mencius_base::{Entry, Message, NoMemory, Vote};
 use mencius_cluster::{Cluster, MessageBits};
 use std::alloc::{AllocError, Global};
 
-/// Adds a line for each message and each server that it goes to, where the server neither heard nor
-/// lost it. The work grows with the messages and with the journal, each of which is read once.
+/// Adds a line for each message and each server that it goes to, if the server neither heard nor lost it. The work
+/// grows with the number of messages and the length of the journal. The messages and the journal are each read once.
 pub(crate) fn push_unheard(
     alloc: Global,
     text: &mut String,
@@ -30,7 +30,7 @@ pub(crate) fn push_unheard(
     Ok(())
 }
 
-// A mark at each message and server where the server heard or lost the message.
+// Returns a mark for each pair of a message and a server that heard or lost it.
 fn settled(alloc: Global, cluster: &Cluster) -> Result<MessageBits, NoMemory>
     ensures { IfOk result (AreSettled (trace_of cluster.now)) }
 {

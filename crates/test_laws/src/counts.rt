@@ -1,13 +1,13 @@
-//! What happened in all schedules together.
+//! Counts the events of all schedules together.
 
 use crate::operations::has_bound;
 use mencius_base::Entry;
 use mencius_cluster::{Answered, Cluster};
 use std::alloc::{AllocError, Global};
 
-/// How often each kind of event was accepted, how many deliveries repeated an earlier one, how many suspicions were
-/// such as look ahead, how many commands the longest histories have, and how many commands that compare and set were
-/// answered, with and without the text that they expected.
+/// The number of accepted events, in all and of each kind except executions. It also counts the deliveries that
+/// repeated an earlier delivery, the suspicions that looked ahead, and the commands in the longest histories.
+/// Compare-and-set commands with a reply are counted by whether they found the text that they expected.
 #[derive(Clone, Copy, Debug)]
 pub struct EventCounts {
     events: u64,
@@ -24,7 +24,7 @@ pub struct EventCounts {
 }
 
 impl EventCounts {
-    /// Nothing happened yet.
+    /// Creates counts of zero.
     pub fn new() -> EventCounts {
         EventCounts {
             events: 0,
@@ -41,7 +41,7 @@ impl EventCounts {
         }
     }
 
-    /// Adds what happened to a cluster, whose longest history has so many commands.
+    /// Adds the events of a cluster. `executed` is the number of commands in its longest history.
     pub fn add(
         &mut self,
         alloc: Global,
@@ -83,7 +83,7 @@ impl EventCounts {
         }
     }
 
-    // Counts a command that compares and sets, once it has a reply.
+    // Counts a compare-and-set command if it has a reply.
     fn add_comparison(&mut self, cluster: &Cluster, ticket: u32) {
         let Some(command) = cluster.command(ticket) else {
             return;
@@ -102,7 +102,7 @@ impl EventCounts {
         }
     }
 
-    /// What never happened, though it was to happen.
+    /// Returns words for the first expected kind of event that never happened, or `None` if all kinds happened.
     pub fn missing(&self) -> Option<&'static str> {
         for (times, words) in [
             (self.repeats, "no message came twice"),
@@ -127,7 +127,7 @@ impl EventCounts {
         None
     }
 
-    /// The counts in words.
+    /// Returns the counts in words.
     pub fn text(&self, alloc: Global) -> Result<String, AllocError> {
         let mut text = String::new(alloc);
         let EventCounts {
@@ -159,14 +159,14 @@ impl EventCounts {
     }
 }
 
-// No cluster has more servers.
+// No cluster has more servers than this.
 const SERVERS: usize = 8;
 
 fn count(times: &mut u64) {
     *times = times.saturating_add(1);
 }
 
-// Whether a server heard a message before. Now it has.
+// Returns whether a server heard a message before. Marks the message as heard.
 fn mark_heard(heard: &mut Vec<bool>, message: u32, server: u8) -> bool {
     let place = (message as usize)
         .saturating_mul(SERVERS)

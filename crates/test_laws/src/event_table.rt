@@ -1,4 +1,4 @@
-//! The table by which events are drawn.
+//! The table that events are drawn from.
 
 use crate::dice::Dice;
 use crate::mail::Mail;
@@ -8,7 +8,8 @@ use mencius_cluster::Cluster;
 use std::alloc::{AllocError, Global};
 use test_support::walk::Stop;
 
-/// How often three kinds of events come: so many of 64 are submissions, are suspicions, and lose a message.
+/// How often three kinds of events are drawn. Each number is the number of rows, out of 64, that draw a submission, a
+/// suspicion or a loss.
 #[derive(Clone, Copy, Debug)]
 pub struct Mix {
     submissions: u32,
@@ -17,7 +18,7 @@ pub struct Mix {
 }
 
 impl Mix {
-    /// Up to one of sixteen each are submissions and suspicions, and up to one of 32 loses a message.
+    /// Draws a mix with 1 to 4 rows of submissions, up to 4 rows of suspicions, and up to 2 rows of losses.
     pub fn draw(dice: &mut Dice) -> Mix {
         Mix {
             submissions: dice.below(4).saturating_add(1),
@@ -61,7 +62,7 @@ pub fn draw_event(
     Ok(draw_delivery(dice, mail, cluster, server))
 }
 
-// Mostly the next message that comes to the server, and else any message.
+// Draws a delivery. Mostly it is the next message that comes to the server, and otherwise any message.
 fn draw_delivery(dice: &mut Dice, mail: &mut Mail, cluster: &Cluster, server: u8) -> Event {
     if dice.below(8) > 0 {
         if let Some(message) = mail.next_for(dice, cluster, server) {
@@ -73,7 +74,7 @@ fn draw_delivery(dice: &mut Dice, mail: &mut Mail, cluster: &Cluster, server: u8
     Event::Deliver { message, server }
 }
 
-// The slow sender, but one of so many times this server.
+// Returns the slow sender. In one of `times` draws, returns `server` instead.
 fn slow_or(dice: &mut Dice, mail: &Mail, times: u32, server: u8) -> u8 {
     if dice.below(times.max(1)) > 0 {
         return mail.slow();
@@ -81,7 +82,7 @@ fn slow_or(dice: &mut Dice, mail: &Mail, times: u32, server: u8) -> u8 {
     server
 }
 
-// A server, or now and then a number that none has.
+// Draws a server, or now and then a number that may belong to no server.
 fn draw_server(dice: &mut Dice, cluster: &Cluster) -> u8 {
     let servers = u32::from(cluster.servers());
     if dice.below(64) == 0 {
@@ -90,7 +91,8 @@ fn draw_server(dice: &mut Dice, cluster: &Cluster) -> u8 {
     (dice.below(servers.max(1)) % 256) as u8
 }
 
-// A message, every second time one of the last twenty, or now and then a number that none has yet.
+// Draws the number of a message. Half of the draws take one of the last twenty messages, and the other half take any
+// message. Now and then the number is the next one, which no message has yet.
 fn draw_message(dice: &mut Dice, cluster: &Cluster) -> u32 {
     let end = cluster.messages().saturating_add(1);
     if dice.below(2) == 0 {
@@ -100,7 +102,7 @@ fn draw_message(dice: &mut Dice, cluster: &Cluster) -> u32 {
         .saturating_sub(1)
 }
 
-// The server that a message is for, where it is for one alone, and else this one.
+// Returns the addressee of a message, if the message is for one server alone. Otherwise returns `server`.
 fn addressee_or(cluster: &Cluster, message: u32, server: u8) -> u8 {
     let _inside: Option<Vote> = None;
     match cluster.message(message) {
@@ -109,7 +111,7 @@ fn addressee_or(cluster: &Cluster, message: u32, server: u8) -> u8 {
     }
 }
 
-// A command of one of three clients. Now and then its number may have come before.
+// Draws a command of one of three clients. Now and then an earlier command may have the same number.
 fn draw_command(alloc: Global, dice: &mut Dice, cluster: &Cluster) -> Result<Command, Stop> {
     let submitted = cluster.commands();
     let number = if dice.below(8) == 0 {

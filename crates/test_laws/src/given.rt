@@ -1,10 +1,10 @@
-//! A schedule that is given, and all that it sends once more.
+//! Runs a given schedule, and delivers all its messages again.
 
 use mencius_input::{Events, Scenario};
 use std::alloc::Global;
 use test_support::walk::{Stop, Walk};
 
-/// A cluster after the events of a schedule.
+/// Steps a new cluster through the events of a schedule, and returns the walk.
 pub fn follow(alloc: Global, scenario: Scenario<Events>) -> Result<Walk, Stop> {
     let mut walk = Walk::new(alloc, scenario.members, 1)?;
     for event in scenario.course {
@@ -13,8 +13,8 @@ pub fn follow(alloc: Global, scenario: Scenario<Events>) -> Result<Walk, Stop> {
     Ok(walk)
 }
 
-/// Each message that was sent so far comes again, from the last to the first, and then all of them once more. Then
-/// each server executes what it can.
+/// Delivers each message that was sent so far, from the last to the first, twice over. Then each server executes all
+/// that it can.
 pub fn send_again(walk: &mut Walk) -> Result<(), Stop> {
     let sent = walk.cluster().messages();
     deliver_backwards(walk, sent)?;
@@ -22,7 +22,8 @@ pub fn send_again(walk: &mut Walk) -> Result<(), Stop> {
     walk.execute_all()
 }
 
-// Delivers each of the first messages to every server that it goes to, from the last to the first.
+// Delivers the first `sent` messages, from the last to the first. Each message goes to every server that it was sent
+// to.
 fn deliver_backwards(walk: &mut Walk, sent: u32) -> Result<(), Stop> {
     for back in 1..=sent {
         walk.deliver_everywhere(sent - back)?;

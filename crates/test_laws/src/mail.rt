@@ -1,21 +1,21 @@
-//! How far each server has heard what was sent.
+//! Keeps track of the messages that each server has heard.
 
 use crate::dice::Dice;
 use mencius_base::{Message, Vote};
 use mencius_cluster::Cluster;
 use std::alloc::{AllocError, Global};
 
-/// The messages as they come to servers in the order of sending, but that every second one of a slow sender comes to
-/// nobody else. So what one server decides stays unknown to others that suspect it meanwhile.
+/// The messages on their way to servers, in the order of sending. One sender is slow. Each other server misses about
+/// half of its messages. So other servers do not know some of its decisions when they suspect it.
 #[derive(Drop)]
 pub struct Mail {
-    // By server the first message that did not come to it yet.
+    // For each server, the first message that did not come to it yet.
     next: Vec<u32>,
     slow: u8,
 }
 
 impl Mail {
-    /// Nothing has come yet.
+    /// Creates the mail before any message has come, and draws the slow sender.
     pub fn new(alloc: Global, dice: &mut Dice, servers: u8) -> Result<Mail, AllocError> {
         let mut next = Vec::new(alloc);
         next.resize(usize::from(servers), 0)?;
@@ -23,12 +23,12 @@ impl Mail {
         Ok(Mail { next, slow })
     }
 
-    /// The sender whose messages are slow.
+    /// Returns the sender whose messages are slow.
     pub fn slow(&self) -> u8 {
         self.slow
     }
 
-    /// The next message that comes to a server, if there is one.
+    /// Returns the next message that comes to a server, if there is one.
     pub fn next_for(&mut self, dice: &mut Dice, cluster: &Cluster, server: u8) -> Option<u32> {
         let slow = self.slow;
         let next = self.next.get_mut(usize::from(server))?;

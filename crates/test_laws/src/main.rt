@@ -1,21 +1,33 @@
-//! Steps clusters through schedules that are drawn at random, and asks the laws of their answers after each event.
+//! Steps clusters through schedules that are drawn at random, and checks the laws after each event.
 //!
-//! Standard input has two numbers, a seed and a count. Of that many schedules each has a cluster of 1 to 7 servers,
-//! which mostly look ahead where they suspect, and 60 to 360 events that are drawn by numbers of its own. Then, to half
-//! of the clusters, each message comes once more in order, so that what was begun is ended. At the end the journal makes
-//! a second cluster with the same answers and the same report.
+//! Standard input contains two numbers, a seed and a count. The count is the number of schedules. Each schedule has a
+//! cluster of 1 to 7 servers and 60 to 360 events, which are drawn by its own random numbers. Most clusters look ahead
+//! in suspicions. In about half of the schedules, the program then delivers each message again in order, so that the
+//! servers finish the work that they began. At the end, the journal must build a second cluster with the same results
+//! and the same report.
 //!
-//! After each event all answers are looked at. A third number on standard input is a pace: then they are so after that
-//! many events each time and at the end, and after each event between only those that it may have changed; and of the
-//! second cluster only those of instances that any server could reach.
+//! After each event, the program checks all results of the cluster's calls. An optional third number on standard input
+//! is a pace. If it is greater than 1, the program checks all results only after that many events each time, and at the
+//! end. After each event in between, it checks only the results that the event may have changed. In the second cluster,
+//! it then compares only instances that a server could reach.
 //!
-//! Or standard input is a scenario of a replay. Then its events are taken in place of drawn ones, and its journal is
-//! judged; then each message that it sent comes again, from the last to the first, twice over, and all is judged again.
+//! Standard input may also be a scenario of a replay. The program then takes the events of the scenario instead of
+//! drawn events, and checks its journal. After that, it delivers again each message that was sent, from the last to the
+//! first, twice over. Then it checks everything again.
 //!
-//! It ends with status 0, with 2 where standard input has anything else, with 6 where memory ran out, and with 9 where
-//! something is wrong, also where no schedule had a loss, a suspicion, one that looks ahead, a repeat or a retry, where
-//! none executed a command, or where of the commands that compare and set each found what it expected, or none did.
-//! Standard error then says what, and else what happened.
+//! The exit status is one of these:
+//!
+//! - 0 if all laws hold. Standard error then has the counts of the events.
+//! - 2 if standard input contains neither two numbers nor a scenario.
+//! - 6 if memory ran out, or if standard input cannot be read.
+//! - 9 if something is wrong. Standard error then names it.
+//!
+//! With drawn schedules, the status is also 9 in these cases:
+//!
+//! - A kind of event never happened. The kinds are a loss, a suspicion, a suspicion that looks ahead, a repeat and a
+//!   retry.
+//! - No schedule executed a command.
+//! - All compare-and-set commands found the text that they expected, or none did.
 #![tactic(auto)]
 
 mod counts;
@@ -42,7 +54,7 @@ use test_support::observed::reach;
 use test_support::same::first_difference_below;
 use test_support::walk::{Stop, Walk};
 
-// What is drawn, and how closely it is looked at.
+// The schedules to draw, and the pace of the checks.
 #[derive(Clone, Copy, Debug)]
 struct Draw {
     seed: u64,
@@ -50,7 +62,7 @@ struct Draw {
     pace: u32,
 }
 
-// The seed, the count, and the pace if there is one.
+// Reads the seed, the count, and the pace if there is one. The default pace is 1.
 fn read_numbers(bytes: &[u8]) -> Option<Draw> {
     let text = str::from_utf8(bytes).ok()?;
     let (seed, rest) = text.trim().split_once(' ')?;
@@ -62,7 +74,7 @@ fn read_numbers(bytes: &[u8]) -> Option<Draw> {
     })
 }
 
-// Takes so many events as they are drawn.
+// Draws `count` events, and takes each of them.
 fn wander(alloc: Global, dice: &mut Dice, walk: &mut Walk, count: u32) -> Result<(), Stop> {
     let mix = Mix::draw(dice);
     let mut mail = Mail::new(alloc, dice, walk.cluster().servers())?;
@@ -73,7 +85,8 @@ fn wander(alloc: Global, dice: &mut Dice, walk: &mut Walk, count: u32) -> Result
     Ok(())
 }
 
-// Delivers each message from this one on, those too that are sent meanwhile, and answers how many there are then.
+// Delivers each message from number `first` on, including the messages that are sent meanwhile. Returns the number of
+// messages at the end, but at most `MOST_DELIVERED`.
 fn deliver_from(walk: &mut Walk, first: u32) -> Result<u32, Stop> {
     for message in first..MOST_DELIVERED {
         if message >= walk.cluster().messages() {
@@ -84,7 +97,7 @@ fn deliver_from(walk: &mut Walk, first: u32) -> Result<u32, Stop> {
     Ok(MOST_DELIVERED)
 }
 
-// Suggests again what waits.
+// Lets each server retry its waiting commands.
 fn retry_all(walk: &mut Walk) -> Result<(), Stop> {
     for server in 0..walk.cluster().servers() {
         for _ in 0..MOST_WAITING {
@@ -100,7 +113,8 @@ const MOST_DELIVERED: u32 = 4096;
 
 const MOST_WAITING: u32 = 64;
 
-// Ends what was begun.
+// Delivers all messages and retries all waiting commands, so that the servers finish the work that they began. Then
+// each server executes all that it can.
 fn settle(walk: &mut Walk) -> Result<(), Stop> {
     let delivered = deliver_from(walk, 0)?;
     retry_all(walk)?;
@@ -108,7 +122,8 @@ fn settle(walk: &mut Walk) -> Result<(), Stop> {
     walk.execute_all()
 }
 
-// The members, which mostly look a few instances ahead, now and then none or some more, and seldom any number of them.
+// Draws 1 to 7 servers and a beta. Of 64 draws, 44 have a beta of 1 to 3, and 16 have a beta of 0. Three draws have a
+// beta up to 12, and one draw has any beta.
 fn draw_members(dice: &mut Dice) -> Option<Members> {
     let count = dice.below(7) as u8 + 1;
     let beta = match dice.below(64) {
@@ -120,10 +135,11 @@ fn draw_members(dice: &mut Dice) -> Option<Members> {
     Members::with_beta(count, beta)
 }
 
-// How far a server looks ahead at most where what was begun is ended. Further on there are too many answers to look at.
+// The greatest beta of a cluster that may finish its work by `settle`. With a greater beta, there are too many results
+// to check.
 const FAR: u32 = 12;
 
-// A cluster that was attacked by one schedule.
+// Runs one schedule on a new cluster, and checks all results at the end.
 fn attack(alloc: Global, dice: &mut Dice, pace: u32) -> Result<Walk, Stop> {
     let Some(members) = draw_members(dice) else {
         return Err(Stop::Broken("bad members are drawn"));
@@ -134,10 +150,10 @@ fn attack(alloc: Global, dice: &mut Dice, pace: u32) -> Result<Walk, Stop> {
     Ok(walk)
 }
 
-// So many events has a schedule at least.
+// The least number of events in a schedule.
 const FEW: u32 = 60;
 
-// One schedule for a new cluster.
+// Runs one schedule on a new cluster.
 fn attack_with(alloc: Global, dice: &mut Dice, walk: &mut Walk) -> Result<(), Stop> {
     if walk.cluster().members().beta() > FAR {
         return wander(alloc, dice, walk, FEW);
@@ -160,7 +176,8 @@ fn report_of(alloc: Global, cluster: &Cluster) -> Result<Vec<u8>, Stop> {
     }
 }
 
-// The journal makes a cluster with the same answers and the same report. Of instances those below `end` are asked for.
+// Checks that the journal builds a cluster with the same results and the same report. Only instances below `end` are
+// compared.
 fn judge_journal(alloc: Global, cluster: &Cluster, end: u32) -> Result<(), Stop> {
     let second = again(alloc, cluster)?;
     if let Some(answer) = first_difference_below(alloc, cluster, &second, end)? {
@@ -195,7 +212,7 @@ fn judge_walk(alloc: Global, walk: &Walk, end: u32, counts: &mut EventCounts) ->
     Ok(())
 }
 
-// All schedules, and the number of the one at which it ended early, with the cause.
+// Runs all schedules. If a schedule ends early, the error has the number of the schedule and the cause.
 fn attack_all(alloc: Global, draw: Draw, counts: &mut EventCounts) -> Result<(), (u32, Stop)> {
     for number in 0..draw.count {
         if let Err(stop) = attack_one(alloc, draw, number, counts) {
@@ -205,7 +222,7 @@ fn attack_all(alloc: Global, draw: Draw, counts: &mut EventCounts) -> Result<(),
     Ok(())
 }
 
-// The schedule that is given, by itself and with all that it sends once more.
+// Runs the given schedule, first by itself and then with all its messages delivered again.
 fn attack_given(
     alloc: Global,
     scenario: Scenario<Events>,
@@ -217,7 +234,8 @@ fn attack_given(
     judge_walk(alloc, &walk, INSTANCES, counts)
 }
 
-// The status at the end, and what is said of it; `missing` is what was to happen and did not.
+// Returns the exit status, and the text for standard error. `missing` names an expected kind of event that did not
+// happen.
 fn conclude(
     alloc: Global,
     ended: Result<(), (u32, Stop)>,
@@ -239,7 +257,7 @@ fn conclude(
     }
 }
 
-// Attacks by what standard input asks for, and answers the status and what is said.
+// Runs the schedules that standard input selects. Returns the exit status, and the text for standard error.
 fn attack_by(alloc: Global, bytes: &[u8]) -> Result<(u8, String), AllocError> {
     let mut counts = EventCounts::new();
     if let Some(draw) = read_numbers(bytes) {

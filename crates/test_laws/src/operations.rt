@@ -1,10 +1,11 @@
-//! The operations of the commands that are drawn.
+//! The operations of the drawn commands.
 
 use crate::dice::Dice;
 use mencius_base::{Key, Op, Text};
 use std::alloc::{AllocError, Global};
 
-/// Whether an operation that may leave its key as it is did bind it, of one that found this there.
+/// Returns whether a compare-and-set bound its key, if `found` is the text that it found there. `None` for any other
+/// operation.
 pub fn has_bound(op: &Op, found: Option<&str>) -> Option<bool> {
     match op {
         Op::Cas { held, .. } => Some(found == Some(held.as_str())),
@@ -12,8 +13,8 @@ pub fn has_bound(op: &Op, found: Option<&str>) -> Option<bool> {
     }
 }
 
-/// An operation at one of three keys. Four of ten set a text, and three compare and set. The number is one that no other
-/// command has, but for a repeat.
+/// Draws an operation on one of three keys. Of ten draws, four set a text and three compare and set. No other command
+/// has the number `number`, unless the command is a repeat.
 pub fn draw_op(alloc: Global, dice: &mut Dice, number: u32) -> Result<Op, AllocError> {
     let name = match dice.below(3) {
         0 => "a",
@@ -40,7 +41,7 @@ pub fn draw_op(alloc: Global, dice: &mut Dice, number: u32) -> Result<Op, AllocE
     })
 }
 
-// One of few texts, so that a command which compares often finds the same.
+// Draws one of three texts. With so few texts, a compare-and-set often finds the text that it names.
 fn draw_text(alloc: Global, dice: &mut Dice) -> Result<Text, AllocError> {
     let text = match dice.below(3) {
         0 => "",

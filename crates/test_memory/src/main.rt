@@ -1,19 +1,23 @@
-//! Steps a board through the scenario on standard input, and before the first event and after each one shows it and
-//! looks the key `a` up, with a reader that is told of it. Wherever memory runs out in one of these calls, it finds out
-//! whether anything changed, what the reader finds among it, and makes the call again.
+//! Steps a board through the scenario on standard input. Before the first event and after each event, it shows the
+//! board, gives the News to a reader, and looks up the key `a` with this reader. If memory runs out in one of these
+//! calls, it checks that nothing changed, including the reader's results. Then it makes the call again.
 //!
-//! `checks/memory` refuses this program each of its growths of memory in turn. What it prints, the report and what was
-//! found last, is the same then as if none had been refused.
+//! `checks/memory` makes each growth of this program's memory fail in turn. The program must then print the same as if
+//! no growth had failed. It prints the report and the result of the last lookup.
 //!
-//! Or the scenario is one of a run with two workers. Then these run, by `run_workers` where beta is 0 and else by
-//! `run_plan`, and one line is printed: the name of their fault, or `Ok`, and how many turns each of them began.
+//! The scenario may also be a scenario of a run with two workers. If beta is 0, `run_workers` runs them, otherwise
+//! `run_plan`. The program then prints one line. The line has the name of their fault, or `Ok`, and the number of turns
+//! that each worker began.
 //!
-//! With the argument `parts` it steps single servers and executors through the scenario in place of a board, and makes
-//! their calls again in the same way: no cluster stands about them then, which makes room before it calls them. It
-//! prints a line for each server, and how many messages were sent.
+//! With the argument `parts`, the program steps single servers and executors through the scenario instead of a board.
+//! It makes their calls again in the same way. No cluster makes room before these calls. The program prints a line for
+//! each server, and the number of messages that were sent.
 //!
-//! It ends with status 0, and then standard error has the name of the call that was made again, if one was; with 6
-//! where memory ran out in anything else; or with 9 where something changed, which standard error names.
+//! The exit status is one of these:
+//!
+//! - 0 if nothing changed. If a call was made again, standard error has its name.
+//! - 6 if any other call failed, for example because memory ran out in it.
+//! - 9 if something changed. Standard error names it.
 #![tactic(auto)]
 
 mod parts;
@@ -32,7 +36,7 @@ use std::process::ExitCode;
 use std::sync::Wait;
 use std::thread::Threads;
 
-// Shows the board, and takes the events of a scenario, each call made again that was refused memory.
+// Shows the board, and takes the events of a scenario. Each call that was refused memory is made again.
 fn walk<R: Wait>(
     rt: &R,
     alloc: Global,
@@ -52,7 +56,7 @@ fn walk<R: Wait>(
     Ok(())
 }
 
-// Writes the report, and what was found last.
+// Writes the report and the result of the last lookup.
 fn conclude<W: Sink>(alloc: Global, watched: &Watched, sink: &mut W) -> Result<(), Stop> {
     let count = watched.count();
     let Ok(line) = format!(in alloc; "lookup {:?} of {count}\n", watched.found()) else {
@@ -64,7 +68,7 @@ fn conclude<W: Sink>(alloc: Global, watched: &Watched, sink: &mut W) -> Result<(
     write_all(sink, line.as_bytes()).map_err(|_| Stop::Elsewhere)
 }
 
-// A course over the scenario that the bytes say, and the call that was refused memory, if one was.
+// Runs the scenario in the bytes on a board. Returns the last call that was refused memory, if any.
 fn course<R: Wait, W: Sink>(
     rt: &R,
     alloc: Global,
@@ -85,7 +89,7 @@ fn course<R: Wait, W: Sink>(
     done.map(|()| refused)
 }
 
-// Lets the workers of a run's scenario run, and writes what came of it.
+// Runs the workers of a run's scenario, and writes the line with their result.
 fn run<R: Threads + Wait + Sync, W: Sink>(
     rt: &R,
     alloc: Global,
@@ -99,7 +103,7 @@ fn run<R: Threads + Wait + Sync, W: Sink>(
     write_all(sink, line.as_bytes()).map_err(|_| Stop::Elsewhere)
 }
 
-// Does what the scenario asks for, and answers the call that was made again, if one was.
+// Runs the scenario in the bytes, which has events or workers. Returns the call that was made again, if any.
 fn perform<R: Threads + Wait + Sync, W: Sink>(
     rt: &R,
     alloc: Global,
@@ -113,7 +117,7 @@ fn perform<R: Threads + Wait + Sync, W: Sink>(
     }
 }
 
-// Whether the first argument asks for single servers and executors.
+// Whether the first argument selects single servers and executors.
 fn asks_for_parts(arguments: &[Vec<u8>]) -> bool {
     match arguments.first() {
         Some(word) => word.as_slice() == b"parts".as_slice(),
@@ -121,7 +125,7 @@ fn asks_for_parts(arguments: &[Vec<u8>]) -> bool {
     }
 }
 
-// The status that the program ends with. What else is to be known goes to standard error.
+// Returns the exit status. Writes the name of the repeated call, or of the change, to standard error.
 fn status_of<W: Sink>(done: Result<Option<Call>, Stop>, errors: &mut W) -> u8 {
     match done {
         Ok(None) => 0,

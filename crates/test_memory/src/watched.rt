@@ -1,4 +1,4 @@
-//! A board whose calls are made again where memory ran out in them.
+//! A board whose calls are made again if they were refused memory.
 
 ghost use Rattle.std.specs.Prelude.{◌≡◌, IfOk};
 
@@ -14,13 +14,13 @@ use test_support::same::first_difference;
 /// Why a course ends early.
 #[derive(Clone, Copy, Debug, PartialEq, Eq)]
 pub enum Stop {
-    /// Memory ran out in what is not tried.
+    /// Memory ran out in a call that is not under test.
     Elsewhere,
-    /// A call was refused memory, and this changed, or failed when the call was made again.
+    /// A call was refused memory. Then the named thing changed, or the named call failed when it was made again.
     Changed(&'static str),
 }
 
-/// A call that is made again where it was refused memory.
+/// A call that is made again if it was refused memory.
 #[derive(Clone, Copy, Debug, PartialEq, Eq)]
 pub enum Call {
     /// `Board::step`.
@@ -42,7 +42,7 @@ pub enum Call {
 }
 
 impl Call {
-    /// The call's name, as `checks/memory` counts it.
+    /// Returns the call's name. `checks/memory` counts calls by these names.
     pub fn name(self) -> &'static str {
         match self {
             Call::Step => "step",
@@ -57,7 +57,7 @@ impl Call {
     }
 }
 
-/// A board, a reader of it, what the last lookup found, and which call was refused memory last.
+/// A board, its reader, the result of the last lookup, and the last call that was refused memory.
 pub struct Watched {
     board: Board,
     reader: Reader,
@@ -77,7 +77,7 @@ impl Model for Watched {
 }
 
 impl Watched {
-    /// Over a cluster to which nothing has happened yet.
+    /// Puts a cluster on a new board with one reader. No event may have happened to the cluster yet.
     pub fn new<R: Wait>(rt: &R, alloc: Global, cluster: Cluster) -> Result<Watched, Stop> {
         let Ok(mut board) = Board::new(rt, alloc, cluster, 1) else {
             return Err(Stop::Elsewhere);
@@ -96,7 +96,7 @@ impl Watched {
         }
     }
 
-    /// Takes the board away.
+    /// Ends the board.
     pub fn end<R: Wait>(self, rt: &R) {
         let Watched {
             board,
@@ -107,27 +107,28 @@ impl Watched {
         board.end(rt);
     }
 
-    /// The cluster of the board.
+    /// Returns the cluster of the board.
     pub fn cluster(&self) -> &Cluster {
         self.board.cluster()
     }
 
-    /// What the last lookup found.
+    /// Returns the text that the last lookup found, if any.
     pub fn found(&self) -> Option<&str> {
         self.found.as_deref()
     }
 
-    /// The call that was refused memory last, if one was.
+    /// Returns the last call that was refused memory, if any.
     pub fn refused(&self) -> Option<Call> {
         self.refused
     }
 
-    /// How many commands the list has that the last lookup was answered from.
+    /// Returns the number of commands in the reader's floor. After a lookup, the floor is the list that the lookup
+    /// used.
     pub fn count(&self) -> u32 {
         self.reader.count()
     }
 
-    /// Takes the event that stands at a place of the scenario, so many as there are before it having been taken.
+    /// Takes the event at a place of the scenario. All events before this place must have been taken.
     pub fn step(
         &mut self,
         alloc: Global,
@@ -145,8 +146,9 @@ impl Watched {
         }
     }
 
-    // The event that comes after so many of the scenario, where a refused call of the board left the cluster as these
-    // make it, and what is shown as it was.
+    // Checks that a refused call of the board changed nothing. The cluster must be the same as a new cluster after the
+    // first `taken` events of the scenario, and a lookup must find the same as before. Returns the next event of the
+    // scenario.
     fn judge(&mut self, alloc: Global, bytes: &[u8], taken: usize) -> Result<Option<Event>, Stop>
         ensures { self.new ≡ self.old }
     {
@@ -155,7 +157,8 @@ impl Watched {
         Ok(next)
     }
 
-    // The event that comes after so many of the scenario, where the cluster is as these make it.
+    // Checks that the cluster is the same as a new cluster after the first `taken` events of the scenario. Returns the
+    // next event of the scenario.
     fn judge_cluster(
         &self,
         alloc: Global,
@@ -174,7 +177,7 @@ impl Watched {
         }
     }
 
-    /// Shows the longest history once so many events were taken, and tells the reader.
+    /// Shows the longest history after the first `taken` events, and gives the News to the reader.
     pub fn show<R: Wait>(
         &mut self,
         rt: &R,
@@ -195,7 +198,7 @@ impl Watched {
         Ok(())
     }
 
-    // Nothing, where a lookup finds what the last one found.
+    // Checks that a lookup finds the same as the last lookup.
     fn judge_shown(&mut self, alloc: Global) -> Result<(), Stop>
         ensures { self.new ≡ self.old }
     {
@@ -216,7 +219,7 @@ impl Watched {
         }
     }
 
-    /// Looks the key up.
+    /// Looks up `KEY`. If the lookup is refused memory, checks that the floor did not change, and looks up again.
     pub fn look_up(&mut self, alloc: Global) -> Result<(), Stop> {
         let count = self.reader.count();
         let found = match self.reader.lookup(alloc, KEY) {
@@ -245,10 +248,10 @@ impl Watched {
     }
 }
 
-// The key that is looked up.
+// The key of all lookups.
 const KEY: &str = "a";
 
-// A new cluster after so many events of a scenario, and the event that comes next.
+// Returns a new cluster after the first `taken` events of a scenario, and the next event.
 fn retraced(alloc: Global, bytes: &[u8], taken: usize) -> Result<(Cluster, Option<Event>), Stop> {
     let Ok(scenario) = read_scenario(alloc, bytes) else {
         return Err(Stop::Elsewhere);
@@ -265,7 +268,7 @@ fn retraced(alloc: Global, bytes: &[u8], taken: usize) -> Result<(Cluster, Optio
     Ok((cluster, events.next()))
 }
 
-// Nothing, where two clusters answer the same.
+// Fails if the calls of two clusters have different results.
 fn compare(alloc: Global, first: &Cluster, second: &Cluster) -> Result<(), Stop> {
     match first_difference(alloc, first, second) {
         Ok(None) => Ok(()),

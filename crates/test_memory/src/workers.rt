@@ -1,4 +1,4 @@
-//! Two workers that run on a board, and how far each of them came.
+//! Runs two workers on a board, and counts the turns that each of them begins.
 
 use crate::watched::Stop;
 use mencius_app::Scenario;
@@ -36,8 +36,9 @@ impl Gate for TurnCounter {
     }
 }
 
-/// Lets the workers of a scenario run: with a beta of 0 on a board that others may step, and else on one that is the
-/// run's own. The line has the name of their fault, or `Ok`, and how many turns worker 0 and worker 1 began.
+/// Runs the workers of a scenario. If beta is 0, the board is one that others may step. Otherwise, the board belongs to
+/// the run alone. Returns a line with the name of the workers' fault, or `Ok`, and the numbers of turns that worker 0
+/// and worker 1 began.
 pub fn run_counted<R: Threads + Wait + Sync>(
     rt: &R,
     alloc: Global,
@@ -60,7 +61,7 @@ pub fn run_counted<R: Threads + Wait + Sync>(
     format!(in alloc; "{name} {zero} {one}\n").map_err(|_| Stop::Elsewhere)
 }
 
-// On a board under a lock that others may take too.
+// Runs the workers on a board under a lock that others may take too.
 fn run_shared<R: Threads + Wait + Sync>(
     rt: &R,
     alloc: Global,
@@ -74,7 +75,7 @@ fn run_shared<R: Threads + Wait + Sync>(
     ran
 }
 
-// On a board that is the run's own, as a run of the program does.
+// Runs the workers on a board that belongs to the run alone, as a run of the program does.
 fn run_alone<R: Threads + Wait + Sync>(
     rt: &R,
     alloc: Global,

@@ -1,5 +1,5 @@
-//! Values from outside: which operations make a command, which numbers make members, and what an outbox does at its
-//! limit.
+//! Tests of values from outside. They check the operations that may make a command, the numbers that may make members,
+//! and an outbox at its limit.
 use mencius_base::{
     BadCommand, Ballot, Command, CommandId, Key, Members, Message, Op, Outbox, Refusal, Text,
 };
@@ -13,7 +13,7 @@ fn set(alloc: Global, key: &str, text: &str) -> Result<Op, Fail> {
     })
 }
 
-// The fault of client 1's first command.
+// Returns the fault of client 1's first command, if it has one.
 fn fault_of(alloc: Global, key: &str, text: &str) -> Result<Option<BadCommand>, Fail> {
     let id = CommandId {
         client: 1,
@@ -22,7 +22,7 @@ fn fault_of(alloc: Global, key: &str, text: &str) -> Result<Option<BadCommand>, 
     Ok(Command::new(id, set(alloc, key, text)?).err())
 }
 
-// Bytes come before lengths, and the key before the text.
+// Bytes are checked before lengths, and the key is checked before the text.
 #[test]
 fn commands_have_limits(rt: HostRuntime) -> Result<(), Fail> {
     let alloc = rt.alloc();
@@ -40,7 +40,7 @@ fn commands_have_limits(rt: HostRuntime) -> Result<(), Fail> {
     Ok(())
 }
 
-// The fault of the same command where it compares and sets.
+// Returns the fault of client 1's first command as a compare-and-set, if it has one.
 fn fault_of_cas(
     alloc: Global,
     key: &str,
@@ -59,7 +59,8 @@ fn fault_of_cas(
     Ok(Command::new(id, op).err())
 }
 
-// Both texts are judged alike: a bad byte of either comes before any length, and the key before both.
+// Both texts are checked alike. Bad bytes are reported before bad lengths, and in both cases the key comes before the
+// texts.
 #[test]
 fn both_texts_have_limits(rt: HostRuntime) -> Result<(), Fail> {
     let alloc = rt.alloc();
@@ -86,7 +87,7 @@ fn both_texts_have_limits(rt: HostRuntime) -> Result<(), Fail> {
     Ok(())
 }
 
-// The beta of so many servers, where there may be such members.
+// Returns the beta of such members, or `None` if they may not exist.
 fn beta_of(servers: u8, beta: u32) -> Option<u32> {
     let members = Members::with_beta(servers, beta)?;
     Some(members.beta())
@@ -100,7 +101,7 @@ fn members_have_limits(rt: HostRuntime) -> Result<(), Fail> {
         (0, 0, None),
         (8, 0, None),
         (3, 4096, None),
-        // Two, once its upper bits are cut off.
+        // Without its upper bits, this number is 2.
         (3, 65_538, None),
     ] {
         assert_eq!(rt; beta_of(servers, beta), want, "{servers} servers, {beta}");
@@ -150,7 +151,7 @@ fn messages_go_where_they_are_addressed(rt: HostRuntime) -> Result<(), Fail> {
     };
     let found = (accepted.is_for(three, 0), accepted.is_for(three, 1));
     assert_eq!(rt; found, (true, false));
-    // There is no server 3.
+    // Server 3 does not exist.
     let found = (skip.is_for(three, 0), skip.is_for(three, 3));
     assert_eq!(rt; found, (true, false));
     Ok(())

@@ -1,5 +1,5 @@
-//! What no contract says: that the calls succeed where memory is there, worked picks, that an untold
-//! reader sees what was shown, and that workers run side by side.
+//! Tests of facts that no contract states. Calls succeed if there is enough memory, words pick the expected events, a
+//! reader without News sees the shown list, and workers run side by side.
 
 mod choices;
 mod fixtures;

@@ -1,4 +1,4 @@
-//! What commands at one key are answered, one after the other.
+//! Tests of the replies to commands at one key, one after the other.
 
 use map_exec::{Executor, Reply};
 use mencius_format::parse_command;
@@ -13,7 +13,7 @@ fn text_of(reply: &Reply) -> Option<&str> {
     }
 }
 
-// A command as a scenario has it, its answer, and what is held at the key `a` then.
+// A command as a scenario writes it, its reply, and the text that the key `a` then holds.
 type CommandRow = (&'static str, Option<&'static str>, Option<&'static str>);
 
 fn assert_row(
@@ -30,7 +30,7 @@ fn assert_row(
     assert_eq!(rt; executor.get("a"), held, "what is held after {ticket}");
 }
 
-// The rows come one after the other, by tickets from 0 on, and the history is this then.
+// Executes the rows one after the other, with tickets from 0 on. Then checks the history.
 fn assert_rows(rt: &impl Abort, alloc: Global, rows: &[CommandRow], history: &[u32]) {
     let mut executor = Executor::new(alloc);
     for (ticket, row) in (0..1000).zip(rows) {
@@ -46,7 +46,7 @@ const EMPTY_TEXT: [CommandRow; 4] = [
     ("1.0 get a", None, None),
 ];
 
-// An empty text is a text: it is answered as the former one, and a key that was removed has none.
+// An empty text is a text, so it is returned as the former text. A key that was removed has no text.
 #[test]
 fn empty_text_del_and_get(rt: HostRuntime) {
     assert_rows(&rt, rt.alloc(), &EMPTY_TEXT, &[0, 1, 2, 3]);
@@ -61,8 +61,8 @@ const COMPARED: [CommandRow; 6] = [
     ("1.0 cas a x x", Some("x"), Some("x")),
 ];
 
-// A key that is not there is not bound, also where an empty text is expected. A text is changed only
-// where it is the expected one, and the former one is answered either way.
+// A compare-and-set does not bind an absent key, even if it expects an empty text. It changes a text only if this is
+// the expected text. In both cases, it returns the former text.
 #[test]
 fn compare_and_set(rt: HostRuntime) {
     assert_rows(&rt, rt.alloc(), &COMPARED, &[0, 1, 2, 3, 4, 5]);
@@ -77,7 +77,7 @@ const WHOLE_TEXTS: [CommandRow; 6] = [
     ("1.0 cas a xy z", None, None),
 ];
 
-// The text that is expected is the whole text at the key: no part of it, nothing longer, and none that was removed.
+// The expected text must be the whole text at the key. A part of it, a longer text and a removed text do not count.
 #[test]
 fn compare_and_set_by_whole_texts(rt: HostRuntime) {
     assert_rows(&rt, rt.alloc(), &WHOLE_TEXTS, &[0, 1, 2, 3, 4, 5]);

@@ -1,20 +1,21 @@
-//! Logs, line by line: what a line says, and which line is the first to break a promise.
+//! Tests of logs, line by line. They check the meaning of a line, and the first line that breaks a promise.
 
 use mencius_judge::{Judge, Promise, parse_line};
 use std::alloc::Global;
 use std::process::Abort;
 use std::test::Fail;
 
-// Of the lines behind a log that keeps all promises, the first that breaks one, from 0, and which one.
+// The first line that breaks a promise, counted from 0, and this promise. The lines come after a log that keeps all
+// promises.
 type Found = Option<(usize, Promise)>;
 
-// Two commands at one key, and the same executed by a server.
+// `TWO` submits two commands at one key. In `BOTH`, a server also executes them.
 const TWO: &str = "submit 1.0 set a x\nsubmit 2.0 set a y";
 
 const BOTH: &str = "submit 1.0 set a x\nsubmit 2.0 set a y\nexecute 0 1.0\nexecute 0 2.0";
 
 const LOGS: [(&str, &str, Found); 14] = [
-    // a reply before its execution, and a client that asks once more
+    // A reply comes before its execution, and a client submits its command again.
     (
         TWO,
         "reply 1.0 =y\nexecute 0 2.0\nexecute 0 1.0\nexecute 1 2.0\nreply 2.0 none\nsubmit 1.0 set a x",
@@ -35,13 +36,13 @@ const LOGS: [(&str, &str, Found); 14] = [
         Some((1, Promise::OneReply)),
     ),
     (BOTH, "reply 2.0 none", Some((0, Promise::RightReply))),
-    // found out at the execution
+    // The wrong reply is noticed at the execution.
     (
         TWO,
         "reply 2.0 none\nexecute 0 1.0\nexecute 0 2.0",
         Some((2, Promise::RightReply)),
     ),
-    // a late reader beside one that is ahead of it, told of a server that executed nothing
+    // A late reader, next to a reader that is ahead, learns of a server that executed no command.
     (
         BOTH,
         "lookup 2 a =y\nlookup 1 a =x\ntold 1 1\nlookup 1 a =x",
@@ -61,7 +62,7 @@ const LOGS: [(&str, &str, Found); 14] = [
     (TWO, "lookup 1 a =x", Some((0, Promise::RightLookup))),
 ];
 
-// Has a judge see the lines, up to the first that breaks a promise.
+// Passes the lines to a judge, up to the first line that breaks a promise.
 fn see(alloc: Global, judge: &mut Judge, lines: &str) -> Result<Found, Fail> {
     for (place, line) in lines.split('\n').enumerate() {
         let said = parse_line(alloc, line.as_bytes()).ok();
@@ -95,7 +96,7 @@ fn worked_logs(rt: HostRuntime) -> Result<(), Fail> {
     Ok(())
 }
 
-// Whether a line says an observation, where it has no fault.
+// Whether a line contains an observation, or `None` if the line has a fault.
 fn says(alloc: Global, line: &str) -> Option<bool> {
     let said = parse_line(alloc, line.as_bytes()).ok()?;
     Some(said.is_some())

@@ -1,6 +1,6 @@
-//! Tests of the parts, each by its public calls: commands and outboxes, single instances, single servers, the map,
-//! boards and their readers and workers, and the judge of logs. They stand apart, so that no part is proved a second
-//! time with its tests.
+//! Tests of the parts by their public calls. The parts are commands and outboxes, single instances, single servers, the
+//! map, boards with their readers and workers, and the judge of logs. The tests are a crate of their own, so that no
+//! part is proved a second time with its tests.
 #![tactic(auto)]
 
 #[cfg(test)]

@@ -1,4 +1,5 @@
-//! Single servers: what an event makes them send and learn, by the messages that were sent before it.
+//! Tests of single servers. They check the messages that an event makes a server send, and the instances that it
+//! teaches, given the messages that were sent before.
 
 ghost use Rattle.std.specs.Prelude.{◌<◌};
 
@@ -24,7 +25,7 @@ fn retry(server: u8) -> Entry {
     Entry::Retry { server }
 }
 
-// The server at which an event happens.
+// Returns the server of an event.
 fn server_of(event: Entry) -> u8 {
     match event {
         Entry::Submit { server, .. }
@@ -36,7 +37,8 @@ fn server_of(event: Entry) -> u8 {
     }
 }
 
-// What happens at a server, and how many instances it learns, over the messages that were sent so far.
+// Makes the call of a server for an event, over the messages that were sent so far. Returns the number of instances
+// that the server learns.
 fn happen(
     rt: &impl Abort,
     server: &mut Server,
@@ -102,7 +104,7 @@ fn prepare(from: u8, inst: u32, ballot: Ballot) -> Message {
     Message::Prepare { from, inst, ballot }
 }
 
-// One of three servers.
+// Creates one of three servers.
 fn new_server(rt: &impl Abort, alloc: Global, id: u8) -> Server
     requires { id < 3 }
 {
@@ -110,7 +112,7 @@ fn new_server(rt: &impl Abort, alloc: Global, id: u8) -> Server
     Server::new(alloc, members, id).expect(rt, "memory")
 }
 
-// An event is answered so: with how many instances are learned, or with why it is refused.
+// Checks the result of an event, which is the number of learned instances or the refusal.
 fn assert_happens(
     rt: &impl Abort,
     server: &mut Server,
@@ -121,7 +123,7 @@ fn assert_happens(
     assert_eq!(rt; happen(rt, server, event, out), answer, "{event:?}");
 }
 
-// A message teaches so many instances.
+// Checks that a message teaches `count` instances.
 fn assert_learns(
     rt: &impl Abort,
     server: &mut Server,
@@ -132,12 +134,12 @@ fn assert_learns(
     assert_eq!(rt; hear(rt, server, message, out), Ok(count));
 }
 
-// What stands on the outbox from a place on.
+// Checks the messages on the outbox from place `before` on.
 fn assert_sent(rt: &impl Abort, out: &Outbox, before: usize, sends: &[Message]) {
     assert_eq!(rt; out.messages().get(before..), Some(sends));
 }
 
-// There is no room for both messages that a suggestion calls for, so none is sent.
+// Checks that no message is sent if the outbox has no room for both messages that a suggestion calls for.
 fn assert_lacks_room(rt: &impl Abort, server: &mut Server, message: &Message, out: &mut Outbox) {
     assert_eq!(rt; hear(rt, server, message, out), Err(Refusal::MessagesFull));
     assert_eq!(rt; server.front(), 0);
@@ -161,7 +163,7 @@ fn suggestion_heard_with_little_room(rt: HostRuntime) {
     assert_eq!(rt; zero.front(), 3);
 }
 
-// The limit of a fresh outbox, an event, the answer, and the number of the ballot that is prepared then.
+// The limit of a new outbox, an event, its result, and the number of the ballot that is then prepared.
 type Call = (u32, Entry, Result<u32, Refusal>, Option<u32>);
 
 fn take_call(rt: &impl Abort, alloc: Global, server: &mut Server, call: &Call) {
@@ -174,7 +176,7 @@ fn take_call(rt: &impl Abort, alloc: Global, server: &mut Server, call: &Call) {
     }
 }
 
-// Server 1 prepares a ballot at 0, 3, 6 and 9.
+// Checks that server 1 prepares a ballot at 0, 3, 6 and 9, and sends no other message.
 fn assert_prepared(rt: &impl Abort, out: &Outbox, ballot: Ballot) {
     let messages = out.messages();
     let mut count = 0;
@@ -210,7 +212,7 @@ fn suspicions(rt: HostRuntime) {
     assert_eq!(rt; one.front(), 10);
 }
 
-// A no-op is learned at an instance, and then a ticket waits.
+// Teaches a no-op at an instance, and checks the ticket that then waits.
 fn lose_instance(
     rt: &impl Abort,
     server: &mut Server,
@@ -227,7 +229,7 @@ fn lose_instance(
     assert_eq!(rt; server.waiting(), waiting);
 }
 
-// A ticket is suggested again, and then another waits, or none.
+// Suggests a waiting ticket again, and checks the ticket that then waits, if any.
 fn retry_one(rt: &impl Abort, server: &mut Server, out: &mut Outbox, waiting: Option<u32>) {
     assert_happens(rt, server, retry(server.id()), out, Ok(0));
     assert_eq!(rt; server.waiting(), waiting);
@@ -254,7 +256,7 @@ fn tickets_wait_by_instance(rt: HostRuntime) {
     assert_sent(&rt, &out, 3, &[suggest(0, 9, 8), suggest(0, 12, 9)]);
 }
 
-// Server 0 skips the instances from one of its own up to another, and one interval is stored then.
+// Lets a server hear that server 0 skips an interval. Checks that the server then stores one interval.
 fn take_skip(
     rt: &impl Abort,
     server: &mut Server,
@@ -296,7 +298,7 @@ fn two_skips_keep_one_interval_and_a_suggestion_one_slot(rt: HostRuntime) {
     assert_eq!(rt; found, (Some(Value::Noop), None));
 }
 
-// A server keeps so many slots and so many intervals.
+// Checks the numbers of slots and intervals that a server keeps.
 fn assert_stored(rt: &impl Abort, server: &Server, counts: (u32, u32)) {
     assert_eq!(rt; server.kept(), counts);
 }

@@ -1,4 +1,4 @@
-//! One instance at one server: what it answers as acceptor, and what it counts as proposer.
+//! Tests of one instance at one server. They check the replies of the acceptor, and the counts of the proposer.
 
 ghost use Rattle.std.specs.Prelude.{◌≡◌, ◌<◌};
 
@@ -13,7 +13,7 @@ fn three(rt: &impl Abort) -> Members
     Members::new(3).expect(rt, "three")
 }
 
-// A ballot of three members by its number: 4 is round 1 of server 1.
+// Returns the ballot of three members with this number. For example, 4 is round 1 of server 1.
 pub(crate) fn ballot(rt: &impl Abort, number: u32) -> Ballot
     ensures { result ≡ number }
 {
@@ -24,7 +24,7 @@ fn vote(ballot: Ballot, value: Value) -> Option<Vote> {
     Some(Vote { ballot, value })
 }
 
-// The number of a ballot, if there is one.
+// Returns the number of a ballot, if there is such a ballot.
 fn number_of(members: Members, round: u32, server: u8) -> Option<u32> {
     Some(Ballot::new(members, round, server)?.number())
 }
@@ -54,17 +54,17 @@ fn ballots_have_leaders(rt: HostRuntime) {
     assert_eq!(rt; leaders, (2, 1));
 }
 
-// A Prepare is answered so.
+// Checks the acceptor's reply to a Prepare.
 fn assert_answers(rt: &impl Abort, slot: &mut Slot, ballot: Ballot, want: Answer) {
     assert_eq!(rt; slot.prepare(ballot), want);
 }
 
-// A value is accepted, or not.
+// Checks whether a value is accepted.
 fn assert_accepts(rt: &impl Abort, slot: &mut Slot, ballot: Ballot, value: Value, want: bool) {
     assert_eq!(rt; slot.accept(ballot, value), want);
 }
 
-// A value is the first one that is learned, or not.
+// Checks whether a value is the first one that is learned.
 fn assert_slot_learns(rt: &impl Abort, slot: &mut Slot, value: Value, want: bool) {
     assert_eq!(rt; slot.learn(value), want);
 }
@@ -94,7 +94,7 @@ fn an_acceptor_answers(rt: HostRuntime) {
     assert_accepts(&rt, &mut slot, seven, ticket, true);
 }
 
-// A promise of a ballot is counted, and this is proposed.
+// Counts a promise of a ballot, and checks the value that is then proposed, if any.
 fn assert_promise(
     rt: &impl Abort,
     slot: &mut Slot,
@@ -110,7 +110,7 @@ fn assert_promise(
     assert_eq!(rt; slot.add_promise(from, ballot, vote), want);
 }
 
-// An acceptance of a ballot is counted, and this is learned.
+// Counts an acceptance of a ballot, and checks the value that is then learned, if any.
 fn assert_accept(rt: &impl Abort, slot: &mut Slot, from: u8, ballot: Ballot, want: Option<Value>)
     requires { from < slot.old.members.count }
     ensures { slot.new.members ≡ slot.old.members }
@@ -118,7 +118,7 @@ fn assert_accept(rt: &impl Abort, slot: &mut Slot, from: u8, ballot: Ballot, wan
     assert_eq!(rt; slot.add_accept(from, ballot), want);
 }
 
-// All three promised the ballot that is tried, and accepted what was proposed at it.
+// Checks that all three servers promised the ballot that is tried, and accepted the value that was proposed at it.
 fn assert_has_all(rt: &impl Abort, slot: &Slot, ballot: Ballot, value: Value) {
     assert_eq!(rt; (slot.trying(), slot.proposal()), (ballot, Some(value)));
     assert_eq!(rt; slot.promises(), [true, true, true].as_slice());

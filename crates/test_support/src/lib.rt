@@ -1,8 +1,10 @@
-//! Clusters that are watched while they run: the laws, asked of a running cluster's answers ([`observed`]) after each
-//! of the events that it is stepped through ([`walk`]); a cluster that is made again from the journal of another one
-//! ([`again`]); the answers of two clusters, compared ([`same`]); and a map of
-//! our own beside the one that is tested ([`plain_map`]). What asks here is tested, not proved: it takes
-//! nothing from the contracts that already say it.
+//! Checks clusters while they run. [`walk`] steps a cluster through events, and [`observed`] checks the laws on the
+//! results of the cluster's calls after each event. [`again`] builds a cluster again from the journal of another
+//! cluster. [`same`] compares the results of the calls of two clusters. [`plain_map`] is a map of our own, to compare
+//! with the map under test.
+//!
+//! These checks are tested, not proved. They take no facts from the contracts, although the contracts already state the
+//! laws.
 #![tactic(auto)]
 
 pub mod again;

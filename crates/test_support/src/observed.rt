@@ -1,4 +1,4 @@
-//! The laws, asked of a running cluster's answers.
+//! Checks the laws on the results of a running cluster's calls.
 
 use crate::plain_map::change;
 use mencius_base::{Command, Entry, INSTANCES, Message, Value, Vote};
@@ -6,24 +6,25 @@ use mencius_cluster::{Answered, Cluster};
 use std::alloc::{AllocError, Global};
 use std::collections::BTreeMap;
 
-/// What was seen of one cluster's answers so far, and what a map finds that executes the longest history alone.
+/// The results of one cluster's calls that were seen so far. Also the results of a map that executes the longest
+/// history alone.
 #[derive(Drop)]
 pub struct Observed {
     alloc: Global,
-    // The longest history so far, and for each of its commands what the map held at its key.
+    // The longest history so far, and the text that the map held at the key of each of its commands.
     longest: Vec<u32>,
     found: Vec<Option<String>>,
-    // By ticket where its command stands there.
+    // For each ticket, the place of its command in the longest history.
     places: Vec<Option<usize>>,
     texts: BTreeMap<String, String>,
-    // By server how long its history was.
+    // For each server, the length of its history when it was last seen.
     lengths: Vec<usize>,
-    // By instance what a server learned there.
+    // For each instance, the value that a server learned there.
     values: Vec<Option<Value>>,
 }
 
 impl Observed {
-    /// Nothing was seen yet.
+    /// Creates an empty record.
     pub fn new(alloc: Global) -> Observed {
         Observed {
             alloc,
@@ -36,18 +37,19 @@ impl Observed {
         }
     }
 
-    /// The tickets of the longest history so far, in order.
+    /// Returns the tickets of the longest history so far, in order.
     pub fn longest(&self) -> &[u32] {
         self.longest.as_slice()
     }
 
-    /// Looks at the answers of the cluster, and answers the first law that is broken, in words, or `None`:
+    /// Checks the histories, the learned values and the replies of the cluster. Returns the first broken law in words,
+    /// or `None` if these laws hold:
     ///
-    /// - of each two histories, now or earlier, one is a prefix of the other, and a server's own only grows;
-    /// - a command was submitted, and stands in a history once;
-    /// - what servers learn of one instance, now or earlier, is the same;
-    /// - a command has its reply once the server that it was submitted at executed it, and the reply is what a map
-    ///   finds that executes the history alone.
+    /// - Any two histories, now or earlier, agree up to the end of the shorter one. The history of a server only grows.
+    /// - A command in a history was submitted, and occurs there only once.
+    /// - All values that servers learned at one instance, now or earlier, are the same.
+    /// - A command has its reply exactly if its home has executed it. The reply is the result of a map that executes
+    ///   the history alone.
     pub fn see(&mut self, cluster: &Cluster) -> Result<Option<&'static str>, AllocError> {
         for server in 0..cluster.servers() {
             let broken = self.see_server(cluster, server)?;
@@ -58,9 +60,12 @@ impl Observed {
         Ok(self.see_replies(cluster))
     }
 
-    /// Looks at what an event may have changed that was accepted last, and answers the first law that is broken, as
-    /// [`Observed::see`] does: at what its server learned where a message speaks of, or at the end of its history and
-    /// the reply there.
+    /// Checks the results that the last accepted event may have changed. Returns the first broken law in words, like
+    /// [`Observed::see`].
+    ///
+    /// - After a delivery, it checks the values that the server learned at the instances of the message.
+    /// - After an execution, it checks the end of the server's history and the reply there.
+    /// - After a submission, it checks the reply of the command.
     pub fn see_event(
         &mut self,
         cluster: &Cluster,
@@ -80,7 +85,7 @@ impl Observed {
         message: u32,
         server: u8,
     ) -> Result<Option<&'static str>, AllocError> {
-        // The check of a value that holds a message looks for the types inside it among those named here.
+        // For a value that contains a message, the checker looks for the types inside it among the types named here.
         let _inside: Option<Vote> = None;
         match cluster.message(message) {
             Some(Message::Skip { first, stop, .. }) => {
@@ -134,7 +139,7 @@ impl Observed {
         self.see_values(cluster, server, 0, reach(cluster))
     }
 
-    // Whether the server's history was longer.
+    // Returns whether the server's history was longer before. Stores the new length.
     fn has_shrunk(&mut self, server: u8, length: usize) -> Result<bool, AllocError> {
         for _ in self.lengths.len()..=usize::from(server) {
             self.lengths.push(0)?;
@@ -147,7 +152,7 @@ impl Observed {
         Ok(has_shrunk)
     }
 
-    // From the place `first` on.
+    // Checks a history from the place `first` on.
     fn see_history(
         &mut self,
         cluster: &Cluster,
@@ -171,12 +176,12 @@ impl Observed {
         Ok(None)
     }
 
-    // Where a command stands in the longest history.
+    // Returns the place of a command in the longest history.
     fn place_of(&self, ticket: u32) -> Option<usize> {
         *self.places.get(ticket as usize)?
     }
 
-    // Executes a command after all earlier ones.
+    // Executes a command on the map, after all earlier commands.
     fn execute(&mut self, command: &Command, ticket: u32) -> Result<(), AllocError> {
         let found = change(&mut self.texts, self.alloc, command.op())?;
         self.found.push(found)?;
@@ -190,8 +195,8 @@ impl Observed {
         Ok(())
     }
 
-    // At the instances from one on and before another. No server learned anything at an instance past what any could
-    // reach.
+    // Checks the values that a server learned at the instances from `first` up to, but not including, `end`. No server
+    // learned a value at an instance that no server could reach.
     fn see_values(
         &mut self,
         cluster: &Cluster,
@@ -211,7 +216,8 @@ impl Observed {
         Ok(None)
     }
 
-    // Whether what a server learned at an instance is what was learned there before, if anything was.
+    // Returns whether a server learned the same value at an instance as was learned there before, if any. Stores the
+    // first value.
     fn note_learned(&mut self, inst: u32, learned: Option<Value>) -> bool {
         let Some(known) = self.values.get_mut(inst as usize) else {
             return false;
@@ -250,7 +256,7 @@ impl Observed {
         }
     }
 
-    // Where a command stands in the history of a server, which is a beginning of the longest one.
+    // Returns the place of a command in the history of a server, which is a prefix of the longest history.
     fn place_at(&self, cluster: &Cluster, server: u8, ticket: u32) -> Option<usize> {
         let history = cluster.history(server).unwrap_or(&[]);
         let place = self.place_of(ticket)?;
@@ -261,7 +267,7 @@ impl Observed {
         }
     }
 
-    // Nothing, where a reply is what the map found for the command of a place of the longest history.
+    // Returns `None` if the reply is the text that the map found for the command at this place of the longest history.
     fn compare(&self, reply: &Option<String>, place: usize) -> Option<&'static str> {
         match self.found.get(place) {
             Some(found) if found.as_deref() == reply.as_deref() => None,
@@ -270,8 +276,9 @@ impl Observed {
     }
 }
 
-/// Past all instances that a server suggested at or skipped, which are below its front, and past all that it revoked, of
-/// which the last is twice beta past its front then.
+/// Returns an instance after all instances that servers have reached so far, but at most `INSTANCES`. A server has
+/// suggested and skipped only at instances below its front. The last instance that it revoked is at most twice beta
+/// after its front at that time.
 pub fn reach(cluster: &Cluster) -> u32 {
     let ahead = cluster.members().beta().saturating_mul(2);
     let end = greatest_front(cluster)

@@ -1,10 +1,10 @@
-//! A second map beside the one that is tested.
+//! A second map, next to the map under test.
 
 use mencius_base::Op;
 use std::alloc::{AllocError, Global};
 use std::collections::BTreeMap;
 
-/// Changes the texts as an operation says, and answers what they held at its key.
+/// Applies an operation to the texts. Returns the text that its key held before.
 pub fn change(
     texts: &mut BTreeMap<String, String>,
     alloc: Global,
@@ -24,7 +24,7 @@ pub fn change(
     }
 }
 
-// Binds a key to a text, and answers what it had.
+// Binds a key to a text. Returns the text that the key held before.
 fn set(
     texts: &mut BTreeMap<String, String>,
     alloc: Global,

@@ -1,11 +1,11 @@
-//! What two clusters answer, compared.
+//! Compares two clusters by the results of their calls.
 
 use mencius_base::INSTANCES;
 use mencius_cluster::Cluster;
 use std::alloc::{AllocError, Global};
 use std::fmt::Debug;
 
-// The first of a server's answers that differ, of instances below `end`.
+// Returns the name of the first call about a server whose results differ. Only instances below `end` are compared.
 fn of_server(first: &Cluster, second: &Cluster, server: u8, end: u32) -> Option<&'static str> {
     if first.front(server) != second.front(server) {
         return Some("front");
@@ -43,14 +43,14 @@ fn of_servers(first: &Cluster, second: &Cluster, end: u32) -> Option<&'static st
     None
 }
 
-// Whether two answers are printed differently.
+// Whether two results are printed differently.
 fn differ<T: Debug>(alloc: Global, first: &T, second: &T) -> Result<bool, AllocError> {
     let text = format!(in alloc; "{first:?}")?;
     let text_again = format!(in alloc; "{second:?}")?;
     Ok(text.as_str() != text_again.as_str())
 }
 
-// The first difference between the answers about a command.
+// Returns the name of the first call about a command whose results differ.
 fn of_command(
     alloc: Global,
     first: &Cluster,
@@ -77,7 +77,7 @@ fn of_command(
     Ok(None)
 }
 
-// The first difference between the commands and their replies.
+// Returns the name of the first call about the commands and their replies whose results differ.
 fn of_commands(
     alloc: Global,
     first: &Cluster,
@@ -107,8 +107,8 @@ fn of_messages(first: &Cluster, second: &Cluster) -> Option<&'static str> {
     None
 }
 
-/// The first of two clusters' answers that are not the same, by the name of the call, or `None` where they answer the
-/// same to each question.
+/// Compares the results of all calls of two clusters. Returns the name of the first call whose results differ, or
+/// `None` if all results are the same.
 pub fn first_difference(
     alloc: Global,
     first: &Cluster,
@@ -117,7 +117,7 @@ pub fn first_difference(
     first_difference_below(alloc, first, second, INSTANCES)
 }
 
-/// The same, where of instances only those are asked for that are below `end`.
+/// Compares two clusters like [`first_difference`], but makes the calls about instances only for instances below `end`.
 pub fn first_difference_below(
     alloc: Global,
     first: &Cluster,

@@ -1,4 +1,4 @@
-//! A cluster that is stepped, and whose answers are looked at after each event.
+//! Steps a cluster, and checks the laws after each event.
 
 use crate::observed::Observed;
 use mencius_base::{Event, INSTANCES, Members, NoMemory, Vote};
@@ -10,7 +10,7 @@ use std::alloc::{AllocError, Global};
 pub enum Stop {
     /// Memory ran out.
     NoMemory,
-    /// This is wrong, in words.
+    /// Something is wrong, and the text names it.
     Broken(&'static str),
 }
 
@@ -26,7 +26,7 @@ impl From<NoMemory> for Stop {
     }
 }
 
-/// A new cluster of these members.
+/// Creates a new cluster of these members.
 pub fn new_cluster(alloc: Global, members: Members) -> Result<Cluster, Stop> {
     match Cluster::new(alloc, members) {
         Ok(cluster) => Ok(cluster),
@@ -37,19 +37,19 @@ pub fn new_cluster(alloc: Global, members: Members) -> Result<Cluster, Stop> {
     }
 }
 
-/// A cluster and what was seen of it so far.
+/// A cluster, and the record of its results so far.
 #[derive(Drop)]
 pub struct Walk {
     cluster: Cluster,
     seen: Observed,
     pace: u32,
-    // So many events were taken since all answers were looked at.
+    // The number of events since the last complete check.
     taken: u32,
 }
 
 impl Walk {
-    /// Over a new cluster of these members. After so many events each time all answers are looked at, and after those
-    /// between only what the event may have changed.
+    /// Creates a walk over a new cluster of these members. After every `pace` events, it checks all results of the
+    /// cluster. After each event in between, it checks only the results that the event may have changed.
     pub fn new(alloc: Global, members: Members, pace: u32) -> Result<Walk, Stop> {
         Ok(Walk {
             cluster: new_cluster(alloc, members)?,
@@ -59,17 +59,18 @@ impl Walk {
         })
     }
 
-    /// The cluster.
+    /// Returns the cluster.
     pub fn cluster(&self) -> &Cluster {
         &self.cluster
     }
 
-    /// The tickets of the longest history so far, in order.
+    /// Returns the tickets of the longest history so far, in order.
     pub fn longest(&self) -> &[u32] {
         self.seen.longest()
     }
 
-    /// Takes an event, looks at answers as the pace says, and answers whether the event was accepted.
+    /// Steps the cluster by an event, and checks its results at the pace of the walk. Returns whether the cluster
+    /// accepted the event.
     pub fn take(&mut self, event: Event) -> Result<bool, Stop> {
         let answer = self.cluster.step(event);
         if let Err(refusal) = &answer {
@@ -84,7 +85,7 @@ impl Walk {
         Ok(answer.is_ok())
     }
 
-    /// Looks at all answers.
+    /// Checks all results. Fails with `Stop::Broken` if they break a law.
     pub fn look(&mut self) -> Result<(), Stop> {
         self.taken = 0;
         match self.seen.see(&self.cluster)? {
@@ -93,7 +94,7 @@ impl Walk {
         }
     }
 
-    // Looks at what the event changed that was accepted last.
+    // Checks the results that the last accepted event may have changed.
     fn look_at_the_last(&mut self) -> Result<(), Stop> {
         let Some(entry) = self.cluster.journal().last() else {
             return Err(Stop::Broken("an event is not in the journal"));
@@ -104,7 +105,7 @@ impl Walk {
         }
     }
 
-    /// Delivers a message to every server that it goes to.
+    /// Delivers a message to each server that it was sent to. Delivers nothing if no message has this number.
     pub fn deliver_everywhere(&mut self, message: u32) -> Result<(), Stop> {
         let _inside: Option<Vote> = None;
         let Some(sent) = self.cluster.message(message) else {
@@ -118,7 +119,7 @@ impl Walk {
         Ok(())
     }
 
-    /// Each server executes until it is refused.
+    /// Lets each server execute until the cluster refuses.
     pub fn execute_all(&mut self) -> Result<(), Stop> {
         for server in 0..self.cluster.servers() {
             self.execute(server)?;

@@ -1,4 +1,5 @@
-//! What a caller concludes of a cluster, of servers stepped by hand, and of a board's readers, worked once.
+//! Tests of the conclusions that a caller can draw about a cluster, about servers stepped by hand, and about a board's
+//! readers.
 
 ghost use Rattle.mencius_server.specs.Reached.{server_at};
 ghost use Rattle.std.specs.Prelude.{[], ◌≡◌, ◌<◌};
@@ -19,11 +20,11 @@ use std::panic::Expect;
 use std::process::Abort;
 use std::sync::Wait;
 
-// How many events come first, two servers, the first one's history then, and the second one's
-// history after all events.
+// The number of events that come first, two servers, the history of the first server then, and the history of the
+// second server after all events.
 type Row = (usize, u8, u8, &'static [u32], &'static [u32]);
 
-// Server 0 executes ticket 0, and later server 1 both tickets.
+// Server 0 executes ticket 0, and later server 1 executes both tickets.
 const ROWS: [Row; 5] = [
     (0, 1, 1, &[], &[0, 1]),
     (6, 0, 1, &[0], &[0, 1]),
@@ -32,7 +33,7 @@ const ROWS: [Row; 5] = [
     (14, 1, 0, &[0, 1], &[0]),
 ];
 
-// A cluster after so many events, which accepts each, and the events that are left.
+// Returns a cluster that accepted the first events, and the events that are left.
 fn begun<R: Abort>(rt: &R, alloc: Global, first: usize) -> (Cluster, Vec<Event>) {
     let scenario = scenario_of(rt, alloc, GET_AT_ANOTHER_SERVER);
     let mut cluster = new_cluster(rt, alloc, scenario.members);
@@ -43,12 +44,12 @@ fn begun<R: Abort>(rt: &R, alloc: Global, first: usize) -> (Cluster, Vec<Event>)
     (cluster, rest.collect(alloc).expect(rt, "memory"))
 }
 
-// The histories of servers 1 and 0.
+// Returns the histories of servers 1 and 0.
 fn both<'a, R: Abort>(rt: &R, cluster: &'a Cluster) -> (&'a [u32], &'a [u32]) {
     histories(cluster, 1, 0).expect(rt, "members")
 }
 
-// After all events server 1 has executed both tickets, and server 0 the first.
+// Checks that, after all events, server 1 has executed both tickets and server 0 only the first.
 fn assert_histories<R: Abort>(rt: &R, cluster: &Cluster) {
     let (longer, shorter) = both(rt, cluster);
     assert!(rt; longer == [0, 1].as_slice());
@@ -56,7 +57,7 @@ fn assert_histories<R: Abort>(rt: &R, cluster: &Cluster) {
     assert!(rt; histories(cluster, 1, 3).is_none());
 }
 
-// What is noted across the events that are left.
+// Returns the two histories that are noted across the events that are left.
 fn noted<R: Abort>(
     rt: &R,
     alloc: Global,
@@ -100,7 +101,7 @@ fn no_such_server(rt: HostRuntime) {
     }
 }
 
-// The last message says that server 1 accepts what server 0 suggested at instance 0.
+// Checks that the last message is the acceptance of server 1 for the suggestion of server 0 at instance 0.
 fn assert_accepted<R: Abort>(rt: &R, out: &Outbox) {
     let answer = Message::Accepted {
         from: 1,
@@ -111,7 +112,7 @@ fn assert_accepted<R: Abort>(rt: &R, out: &Outbox) {
     assert!(rt; out.messages().last() == Some(&answer));
 }
 
-// One of three servers.
+// Creates one of three servers.
 fn new_server<R: Abort>(rt: &R, alloc: Global, members: Members, id: u8) -> Server
     requires { id < members.count }
     ensures { result ≡ server_at members [] id }
@@ -119,7 +120,7 @@ fn new_server<R: Abort>(rt: &R, alloc: Global, members: Members, id: u8) -> Serv
     Server::new(alloc, members, id).expect(rt, "memory")
 }
 
-// A server suggests its first ticket.
+// Lets a server suggest its first ticket. Returns the suggestion.
 fn suggested<R: Abort>(rt: &R, server: &mut Server, out: &mut Outbox) -> Message
     ensures id { server.new.id ≡ server.old.id }
     ensures members { server.new.members ≡ server.old.members }
@@ -143,7 +144,7 @@ fn first_delivery(rt: HostRuntime) {
     assert_accepted(&rt, &out);
 }
 
-// What is found, in so many commands.
+// Checks the text that a reading found, and the number of commands in its list.
 fn assert_reading<R: Abort>(rt: &R, reading: &Reading, count: u32, text: Option<&str>) {
     assert_eq!(rt; reading.count, count);
     assert_eq!(rt; reading.text.as_deref(), text);
@@ -164,7 +165,7 @@ fn a_told_reader_finds_what_was_executed(rt: HostRuntime) {
     assert_eq!(rt; cluster.events(), 6);
 }
 
-// A board that accepted each event of a schedule.
+// Returns a board that accepted each event of a schedule.
 fn board_after<R: Abort + Wait>(rt: &R, alloc: Global, text: &str) -> Board {
     let scenario = scenario_of(rt, alloc, text);
     let mut board = new_board(rt, alloc, new_cluster(rt, alloc, scenario.members));
@@ -174,7 +175,7 @@ fn board_after<R: Abort + Wait>(rt: &R, alloc: Global, text: &str) -> Board {
     board
 }
 
-// What a reader finds at `a` that learned what its board shows.
+// Returns the text that a reader finds at `a` after it learned the News of its board.
 fn learn_and_look_up<R: Wait>(
     rt: &R,
     alloc: Global,
@@ -205,7 +206,7 @@ fn look_within(alloc: Global, board: &mut Board, reader: &mut Reader) -> Result<
     look_up_within(alloc, board, reader, "a")
 }
 
-// A lookup before the longest history is shown, and one after.
+// Looks up `a` before the longest history is shown, and again after.
 fn look_up_twice<R: Wait>(
     rt: &R,
     alloc: Global,

@@ -1,4 +1,4 @@
-//! What a cluster answers after a worked schedule, each call once, and what each of its events did.
+//! Tests of the calls of a cluster after a worked schedule, each call once, and of the effect of each event.
 
 use crate::courses::{
     GET_AT_ANOTHER_SERVER, REVOKED_AND_SUGGESTED_AGAIN, cluster_after, new_cluster, scenario_of,
@@ -10,7 +10,8 @@ use std::alloc::Global;
 use std::panic::Expect;
 use std::process::Abort;
 
-// For each event of `get_at_another_server` how many messages it sends, and how many instances it teaches.
+// For each event of `get_at_another_server`, the number of messages that it sends, and the number of instances that it
+// teaches.
 const EFFECTS: [(u32, u32); 14] = [
     (1, 0),
     (1, 0),
@@ -28,7 +29,7 @@ const EFFECTS: [(u32, u32); 14] = [
     (0, 0),
 ];
 
-// The reply of a client's first command in words.
+// Returns the reply of a client's first command in words.
 fn shown(cluster: &Cluster, client: u32) -> &str {
     match cluster.reply(CommandId { client, number: 0 }) {
         None => "not submitted",
@@ -38,7 +39,7 @@ fn shown(cluster: &Cluster, client: u32) -> &str {
     }
 }
 
-// An event is accepted, and does this.
+// Checks that an event is accepted and has this effect.
 fn assert_effect<R: Abort>(rt: &R, cluster: &mut Cluster, event: Event, effect: Effect) {
     assert!(rt; cluster.step(event) == Ok(effect));
 }
@@ -61,16 +62,17 @@ fn each_event_has_its_effect(rt: HostRuntime) {
     }
 }
 
-// So many commands are submitted to server 2, one after the other. The last one's instance is its own of this many.
+// The number of commands that are submitted to server 2, one after the other. The last command gets the last of the
+// server's first 1,365 instances.
 const SUBMITTED: u32 = 1365;
 
-// Client 1 sets `a`, by its command of this number.
+// Returns client 1's command with this number, which sets `a`.
 fn set_a<R: Abort>(rt: &R, alloc: Global, number: u32) -> Command {
     let text = format!(in alloc; "1.{number} set a x").expect(rt, "memory");
     parse_command(alloc, text.as_str()).expect(rt, "a command")
 }
 
-// Server 2 suggests each of the commands, by the message of the command's number.
+// Lets server 2 suggest each of the commands, in a message with the number of the command.
 fn submit_all<R: Abort>(rt: &R, alloc: Global, cluster: &mut Cluster) {
     for number in 0..SUBMITTED {
         let submission = Event::Submit {
@@ -86,8 +88,9 @@ fn submit_all<R: Abort>(rt: &R, alloc: Global, cluster: &mut Cluster) {
     }
 }
 
-// Server 0 hears the last suggestion alone, and skips all of its own instances before it: as many as server 2 has up
-// to there. Server 1 learns all of them from the one message that says so, which comes before the answer to server 2.
+// Server 0 hears only the last suggestion, and skips all its own instances before it. Up to there, it has 1,365
+// instances, like server 2. Server 1 learns all of them from the one Skip, which comes before the acceptance for server
+// 2.
 #[test]
 fn one_message_teaches_a_long_skip(rt: HostRuntime) {
     let alloc = rt.alloc();
@@ -111,14 +114,14 @@ fn one_message_teaches_a_long_skip(rt: HostRuntime) {
     assert_effect(&rt, &mut cluster, skip, effect);
 }
 
-// What a cluster answers of a server: its front, how many instances it executed, and how many commands.
+// Returns the front of a server, and the numbers of instances and of commands that it executed.
 fn answers_of(cluster: &Cluster, server: u8) -> Option<(u32, u32, usize)> {
     let front = cluster.front(server)?;
     let done = cluster.done(server)?;
     Some((front, done, cluster.history(server)?.len()))
 }
 
-// What it answers of each of the three.
+// For each of the three servers, its front and the numbers of instances and of commands that it executed.
 const ANSWERS: [(u32, u32, usize); 3] = [(3, 1, 1), (4, 2, 2), (2, 0, 0)];
 
 fn assert_servers<R: Abort>(rt: &R, cluster: &Cluster) {
@@ -134,7 +137,7 @@ fn assert_servers<R: Abort>(rt: &R, cluster: &Cluster) {
     assert_eq!(rt; cluster.front(3), None);
 }
 
-// The ticket that a server executed last.
+// Returns the ticket that a server executed last.
 fn last_of(cluster: &Cluster, server: u8) -> Option<u32> {
     cluster.history(server)?.last().copied()
 }
@@ -152,7 +155,8 @@ fn servers_answer(rt: HostRuntime) {
     assert_learned(&rt, &cluster);
 }
 
-// Server 1 suspects server 0, where servers look ahead by two or not: how many Prepares it sends, at 0 and at 3.
+// Checks the number of Prepares that server 1 sends if it suspects server 0. If servers look ahead by two, these are at
+// instances 0 and 3, otherwise only at 0.
 fn assert_sends_ahead<R: Abort>(rt: &R, alloc: Global, beta: u32, sent: u32) {
     let members = Members::with_beta(3, beta).expect(rt, "three servers");
     let mut cluster = new_cluster(rt, alloc, members);
@@ -182,7 +186,7 @@ fn assert_counts<R: Abort>(rt: &R, cluster: &Cluster) {
     assert_eq!(rt; found, (8, 14, 2));
 }
 
-// Message 4 is the suggestion of the second command.
+// Checks that message 4 is the suggestion of the second command.
 fn assert_suggested<R: Abort>(rt: &R, cluster: &Cluster) {
     let suggestion = Message::Suggest {
         from: 1,
@@ -192,7 +196,7 @@ fn assert_suggested<R: Abort>(rt: &R, cluster: &Cluster) {
     assert!(rt; cluster.message(4) == Some(suggestion));
 }
 
-// The first event is the first submission.
+// Checks that the first event is the first submission, and that the second command belongs to client 2.
 fn assert_submitted<R: Abort>(rt: &R, cluster: &Cluster) {
     let submission = Entry::Submit {
         server: 0,
@@ -211,7 +215,7 @@ fn lists_answer(rt: HostRuntime) {
     assert_submitted(&rt, &cluster);
 }
 
-// After a schedule, the reply of each client is the one in these words.
+// Checks the replies of clients 1 and 2 after a schedule, in words.
 fn assert_replies<R: Abort>(rt: &R, alloc: Global, schedule: &str, wanted: [&str; 2]) {
     let cluster = cluster_after(rt, alloc, schedule);
     let [first, second] = wanted;

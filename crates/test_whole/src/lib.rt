@@ -1,5 +1,5 @@
-//! Tests of what the built program cannot show: each call of a cluster, what callers conclude, workers and readers on a
-//! board, and failing readers and writers.
+//! Tests of behaviour that the built program cannot show. They cover each call of a cluster, the conclusions of
+//! callers, workers and readers on a board, and readers and writers that fail.
 #![tactic(auto)]
 
 #[cfg(test)]

@@ -1,5 +1,5 @@
-//! Two workers whose gate lets one turn begin at a time, in a known order: their run is a board on which these turns
-//! are taken in this order, and a reader beside them finds what worker 0 has shown.
+//! Tests of two workers. Their gate lets one turn begin at a time, in a known order. Their run has the same result as a
+//! board that takes these turns in this order. A reader next to them finds the list that worker 0 has shown.
 
 use crate::courses::{new_board, new_cluster, plan_of};
 use crate::runs::{TWO_WORKERS, is_printed, printed, run_two, take};
@@ -11,31 +11,33 @@ use std::process::Abort;
 use std::sync::{Condvar, Mutex, Wait};
 use std::thread::Threads;
 
-// How many turns each of the two workers takes.
+// The number of turns that each of the two workers takes.
 const TURNS: usize = 2000;
 
-// How many turns of both stand in the order: all but the last one of each. A worker's next coming to the gate tells
-// that its turn has ended, and after the last one it does not come: so these two may be taken in either order.
+// The number of turns in the known order, which are all turns except the last turn of each worker. If a worker comes to
+// the gate again, its turn has ended. After its last turn, it does not come again. So the last two turns may be taken
+// in either order.
 const TURNS_IN_ORDER: usize = 2 * TURNS - 2;
 
-// Which worker takes the turn of a number. They take turns, worker 0 first, but in each fifth round worker 1 is first.
+// Returns the worker that takes the turn with this number. The workers take turns, worker 0 first, but in each fifth
+// round worker 1 is first.
 fn worker_of(turn: usize) -> u8 {
     let is_second = turn % 2 == 1;
     let is_fifth = turn / 2 % 5 == 4;
     u8::from(is_second != is_fifth)
 }
 
-// How far the order has come.
+// The progress of the order.
 #[derive(Drop)]
 struct Course {
-    // How many turns of the order have begun.
+    // The number of turns of the order that have begun.
     turns: usize,
     // The worker whose turn has begun and not ended.
     worker: Option<u8>,
 }
 
 impl Course {
-    // A worker that comes to the gate has ended its turn before.
+    // Ends the turn of a worker that comes to the gate, if it has begun one.
     fn end_turn(&mut self, worker: u8) {
         if self.worker == Some(worker) {
             self.worker = None;
@@ -54,7 +56,7 @@ impl Course {
     }
 }
 
-// Lets each of two workers wait for its turns.
+// A gate that makes each of two workers wait for its turns.
 #[derive(Drop)]
 struct OrderGate<'a, R> {
     rt: &'a R,
@@ -88,21 +90,21 @@ impl<R: Wait> Gate for OrderGate<'_, R> {
     }
 }
 
-// What comes of the turns when they are taken on a board.
+// The result of the turns if they are taken on a board.
 #[derive(Drop)]
 struct Outcome {
     cluster: Cluster,
-    // How many commands are shown before each turn of worker 1.
+    // For each turn of worker 1, the number of commands that are shown before it.
     counts: Vec<u32>,
 }
 
-// How many commands a board shows.
+// Shows the board. Returns the number of commands that it then shows.
 fn show<R: Abort + Wait>(rt: &R, alloc: Global, board: &mut Board) -> u32 {
     board.show(rt, alloc).expect(rt, "News").count()
 }
 
-// Takes the turns in their order, and the last two in this one, and answers how many commands are shown before each
-// turn of worker 1. After each 64th turn of worker 0 the board is shown.
+// Takes the turns in their order, and the last two turns in the order `last_two`. Shows the board after each 64th turn
+// of worker 0. Returns the number of commands that are shown before each turn of worker 1.
 fn take_turns<R: Abort + Wait>(
     rt: &R,
     alloc: Global,
@@ -139,7 +141,7 @@ fn outcome_of<R: Abort + Wait>(rt: &R, alloc: Global, last_two: [u8; 2]) -> Outc
     Outcome { cluster, counts }
 }
 
-// Whether a text is what is printed of the turns, the last two in this order.
+// Whether a text is the output for the turns, with the last two turns in this order.
 fn is_of_turns<R: Abort + Wait>(rt: &R, alloc: Global, text: &str, last_two: [u8; 2]) -> bool {
     let outcome = outcome_of(rt, alloc, last_two);
     is_printed(rt, alloc, text, &outcome.cluster)
@@ -153,12 +155,12 @@ fn a_run_is_a_board_that_is_stepped_in_order(rt: HostRuntime) {
     assert!(rt; is_of_turns(&rt, alloc, text, [0, 1]) || is_of_turns(&rt, alloc, text, [1, 0]));
 }
 
-// A reader that looks again and again.
+// A reader that looks up `a` again and again.
 #[derive(Drop)]
 struct Looks {
     reader: Reader,
     lookups: usize,
-    // Whether each lookup found as many commands as it was to find.
+    // Whether each lookup found a list with the expected number of commands.
     are_right: bool,
 }
 
@@ -171,7 +173,8 @@ impl Looks {
     }
 }
 
-// Has a reader look before each turn of worker 1. Worker 0 waits then, or takes its last turn, which shows nothing.
+// A gate that makes a reader look before each turn of worker 1. Meanwhile, worker 0 waits or takes its last turn, which
+// does not show.
 #[derive(Drop)]
 struct ReaderGate<'a, R> {
     order: OrderGate<'a, R>,
@@ -207,7 +210,7 @@ impl<R: Wait> Gate for ReaderGate<'_, R> {
     }
 }
 
-// How a reader's looks beside two workers go, if it finds so many commands at each.
+// Returns the looks of a reader next to two workers. `counts` has the expected number of commands for each look.
 fn looks_beside<R: Abort + Threads + Wait + Sync>(rt: &R, alloc: Global, counts: &[u32]) -> Looks {
     let scenario = plan_of(rt, alloc, TWO_WORKERS);
     let mut board = new_board(rt, alloc, new_cluster(rt, alloc, scenario.members));

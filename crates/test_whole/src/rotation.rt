@@ -1,4 +1,4 @@
-//! Workers that take turns on one board, and a reader that is told of it from time to time.
+//! Tests of workers that take turns on one board, and of a reader that gets News from time to time.
 
 ghost use Rattle.std.specs.Prelude.{◌≡◌};
 
@@ -14,12 +14,12 @@ use std::process::Abort;
 use std::sync::Wait;
 use test_support::plain_map::change;
 
-// Five servers and eight workers, and half of the choices lose a message.
+// Five servers and eight workers. Half of the choices lose a message.
 const EIGHT_WORKERS: &str = "{\"version\":1,\"servers\":5,\"workers\":8,\"seed\":7,\"turns\":2000,\
     \"loss\":32,\"commands\":[[\"1.0 set a x\",\"1.1 get a\"],[\"2.0 set a y\"],[\"3.0 del a\"],\
     [\"4.0 get a\"],[\"5.0 set b z\"]]}";
 
-// What a list of commands leaves at a key.
+// Returns the text that a list of commands leaves at a key.
 fn left_at(alloc: Global, commands: &[Command], key: &str) -> Result<Option<String>, AllocError> {
     let mut texts = BTreeMap::new(alloc);
     for command in commands {
@@ -28,7 +28,7 @@ fn left_at(alloc: Global, commands: &[Command], key: &str) -> Result<Option<Stri
     Ok(texts.remove(key))
 }
 
-// A board and a reader of it.
+// A board and its reader.
 struct BoardAndReader {
     board: Board,
     reader: Reader,
@@ -53,7 +53,8 @@ impl BoardAndReader {
         }
     }
 
-    // Whether the reader, once told, finds at `a` what the commands shown leave there.
+    // Shows the board, and gives the News to the reader. Returns whether the reader then finds the text that the shown
+    // commands leave at `a`.
     fn finds<R: Wait>(&mut self, rt: &R, alloc: Global) -> Result<bool, BoardFault> {
         let news = self.board.show(rt, alloc)?;
         let Ok(left) = left_at(alloc, news.commands(), "a") else {
@@ -64,7 +65,7 @@ impl BoardAndReader {
         Ok(found.as_deref() == left.as_deref())
     }
 
-    // Whether a worker's turn ends well.
+    // Takes a turn of a worker. Returns whether the turn succeeded.
     fn turn(&mut self, chooser: &mut Chooser) -> bool {
         worker_turn(&mut self.board, chooser).is_ok()
     }
@@ -78,7 +79,7 @@ impl BoardAndReader {
     }
 }
 
-// Whether 64 turns end well, eight of each worker.
+// Takes eight turns of each worker, which are 64 turns of eight workers. Returns whether all turns succeeded.
 fn turn_all(told: &mut BoardAndReader, choosers: &mut [Chooser]) -> bool {
     let mut are_well = true;
     for _ in 0..8 {
@@ -89,7 +90,8 @@ fn turn_all(told: &mut BoardAndReader, choosers: &mut [Chooser]) -> bool {
     are_well
 }
 
-// Whether all turns of a plan's workers end well, and the reader finds what it is to find after each 64 of them.
+// Takes all turns of a plan's workers. Returns whether all turns succeeded, and whether the reader found the right text
+// after each 64 turns.
 fn rotate<R: Wait>(
     rt: &R,
     alloc: Global,
@@ -113,7 +115,8 @@ fn choosers_of<'a>(alloc: Global, plan: &'a Plan) -> Result<Vec<Chooser<'a>>, Al
     Ok(choosers)
 }
 
-// Whether the reader always finds what it is to find, and the cluster after all turns.
+// Takes all turns on a new board. Returns whether the reader always found the right text, and the cluster after all
+// turns.
 fn rotated<R: Wait>(
     rt: &R,
     alloc: Global,
@@ -133,7 +136,8 @@ fn rotated<R: Wait>(
     }
 }
 
-// The cluster after all turns, during which the reader always finds what it is to find.
+// Checks that a reader always finds the right text while the workers take all their turns. Returns the cluster after
+// all turns.
 fn assert_finds<R: Abort + Wait>(rt: &R, alloc: Global, scenario: &str) -> Cluster {
     let scenario = plan_of(rt, alloc, scenario);
     let cluster = new_cluster(rt, alloc, scenario.members);
@@ -143,11 +147,12 @@ fn assert_finds<R: Abort + Wait>(rt: &R, alloc: Global, scenario: &str) -> Clust
     cluster
 }
 
-// Three servers and eight workers, and few choices lose a message.
+// Three servers and eight workers. Few choices lose a message.
 const FEW_LOSSES: &str = "{\"version\":1,\"servers\":3,\"workers\":8,\"seed\":7,\"turns\":2000,\
     \"loss\":1,\"commands\":[[\"1.0 set a x\",\"1.1 get a\"],[\"2.0 set a y\"],[\"3.0 del a\"]]}";
 
-// The same where servers look ahead, and where only client 1 changes `a`: first to `x`, and once that is there, to `y`.
+// Three servers that look ahead, and eight workers. Few choices lose a message. Only client 1 changes `a`, first to `x`
+// and then from `x` to `y`.
 const COMPARED: &str =
     "{\"version\":2,\"servers\":3,\"beta\":2,\"workers\":8,\"seed\":7,\"turns\":2000,\
     \"loss\":1,\"commands\":[[\"1.0 set a x\",\"1.1 cas a x y\"],[\"2.0 cas b  z\"],[\"3.0 cas a z x\"]]}";
@@ -160,7 +165,7 @@ fn told_reader_beside_workers_in_rotation(rt: HostRuntime) {
     assert!(rt; 0 < longest.expect(&rt, "a history").len());
 }
 
-// The text that client 1's second command found.
+// Returns the text that client 1's second command found.
 fn found_by_cas(cluster: &Cluster) -> Option<&str> {
     let second = CommandId {
         client: 1,

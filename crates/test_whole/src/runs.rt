@@ -1,4 +1,5 @@
-//! Workers of a run: one alone takes its turns on a board one after the other, and each turn passes the gate.
+//! Tests of the workers of a run. A single worker takes its turns on a board one after the other, and each turn passes
+//! the gate.
 
 use crate::courses::{new_board, new_cluster, plan_of};
 use mencius_app::{AppFault, Open, Std, report, run};
@@ -16,7 +17,7 @@ use std::thread::Threads;
 const ONE_WORKER: &str = "{\"version\":1,\"servers\":3,\"workers\":1,\"seed\":1,\"turns\":2000,\
     \"loss\":4,\"commands\":[[\"1.0 set a x\"],[\"2.0 get a\"],[\"3.0 del a\"]]}";
 
-// A run, with its journal before the report.
+// Makes a run that writes its journal before the report.
 fn ran<R: Threads + Wait + Sync, G: Gate + Sync>(
     rt: &R,
     alloc: Global,
@@ -29,7 +30,7 @@ fn ran<R: Threads + Wait + Sync, G: Gate + Sync>(
     run(rt, alloc, &mut source, &mut sink, gate, true, None)
 }
 
-/// What a run prints, with its journal before the report.
+/// Returns the text that a run prints, with its journal before the report.
 pub fn printed<R: Abort + Threads + Wait + Sync, G: Gate + Sync>(
     rt: &R,
     alloc: Global,
@@ -42,13 +43,13 @@ pub fn printed<R: Abort + Threads + Wait + Sync, G: Gate + Sync>(
     String::from_utf8(written).expect(rt, "a text")
 }
 
-/// Takes a turn of a worker, which ends well.
+/// Takes a turn of a worker, which must succeed.
 pub fn take<R: Abort>(rt: &R, board: &mut Board, chooser: &mut Chooser) {
     let answer = worker_turn(board, chooser);
     assert_eq!(rt; answer, Ok(()));
 }
 
-// Takes all turns of a run's one worker on a board.
+// Takes all turns of a run's only worker on a board.
 fn take_all<R: Abort>(rt: &R, board: &mut Board, plan: &Plan) {
     assert!(rt; plan.workers() == 1);
     let mut chooser = Chooser::new(plan, 0);
@@ -57,7 +58,7 @@ fn take_all<R: Abort>(rt: &R, board: &mut Board, plan: &Plan) {
     }
 }
 
-// A cluster after the turns of a run's one worker, each taken on a board.
+// Returns a cluster after the turns of a run's only worker, each taken on a board.
 fn cluster_of_turns<R: Abort + Wait>(rt: &R, alloc: Global, scenario: &str) -> Cluster {
     let scenario = plan_of(rt, alloc, scenario);
     let mut board = new_board(rt, alloc, new_cluster(rt, alloc, scenario.members));
@@ -65,7 +66,7 @@ fn cluster_of_turns<R: Abort + Wait>(rt: &R, alloc: Global, scenario: &str) -> C
     board.end(rt)
 }
 
-// The report of a cluster.
+// Returns the report of a cluster.
 fn report_of<R: Abort>(rt: &R, alloc: Global, cluster: &Cluster) -> Vec<u8> {
     let mut taken = Vec::new(alloc);
     let answer = report(alloc, cluster, &mut Std::new(&mut taken));
@@ -73,7 +74,7 @@ fn report_of<R: Abort>(rt: &R, alloc: Global, cluster: &Cluster) -> Vec<u8> {
     taken
 }
 
-// Adds a command's text: who asks, the operation, and its key and texts.
+// Adds the text of a command, with its identity, its operation, its key and its texts.
 fn push_command(line: &mut String, command: &Command) -> Result<(), AllocError> {
     let CommandId { client, number } = command.id();
     write!(line, "{client}.{number} ")?;
@@ -88,7 +89,7 @@ fn push_command(line: &mut String, command: &Command) -> Result<(), AllocError> 
     }
 }
 
-// Adds the text of a cluster's event: its word, and its numbers or its command.
+// Adds the text of a cluster's event, with its word, and its numbers or its command.
 fn push_entry<R: Abort>(
     rt: &R,
     line: &mut String,
@@ -108,8 +109,9 @@ fn push_entry<R: Abort>(
     }
 }
 
-// All events of a cluster as a scenario on one line, without the line's end: its fields are sorted, and no space stands
-// between them. No server looks ahead, so there is no `beta`; no command compares and sets, so the version is 1.
+// Returns all events of a cluster as a scenario on one line, without the line break. The fields are sorted, with no
+// space between them. No server looks ahead, so the scenario has no `beta`. No command compares and sets, so the
+// version is 1.
 fn line_of<R: Abort>(rt: &R, alloc: Global, cluster: &Cluster) -> Result<String, AllocError> {
     let mut line = String::new(alloc);
     line.push_str("{\"events\":[")?;
@@ -125,7 +127,7 @@ fn line_of<R: Abort>(rt: &R, alloc: Global, cluster: &Cluster) -> Result<String,
     Ok(line)
 }
 
-/// Whether a run's text is the line of a cluster's events, byte for byte, and then the cluster's report.
+/// Whether a run's text is the line of a cluster's events and then the cluster's report, byte for byte.
 pub fn is_printed<R: Abort>(rt: &R, alloc: Global, text: &str, cluster: &Cluster) -> bool {
     let (line, rest) = text.split_once('\n').expect(rt, "one line");
     let wanted = line_of(rt, alloc, cluster).expect(rt, "memory");
@@ -140,7 +142,7 @@ fn one_worker_is_a_board_that_is_stepped(rt: HostRuntime) {
     assert!(rt; is_printed(&rt, alloc, text.as_str(), &cluster));
 }
 
-// A cluster after a run's one worker ran on a board under a lock.
+// Returns a cluster after a run's only worker ran on a board under a lock.
 fn cluster_of_run<R: Abort + Threads + Wait + Sync>(
     rt: &R,
     alloc: Global,
@@ -162,12 +164,12 @@ fn one_worker_under_a_lock_does_what_is_printed(rt: HostRuntime) {
     assert!(rt; is_printed(&rt, alloc, text.as_str(), &cluster));
 }
 
-/// The same with two workers.
+/// Three servers and two workers.
 pub const TWO_WORKERS: &str =
     "{\"version\":1,\"servers\":3,\"workers\":2,\"seed\":1,\"turns\":2000,\
     \"loss\":4,\"commands\":[[\"1.0 set a x\"],[\"2.0 get a\"],[\"3.0 del a\"]]}";
 
-// Counts how often each of two workers passes.
+// Counts how often each of two workers passes the gate.
 #[derive(Drop)]
 struct Counting {
     passed: [AtomicU64; 2],
@@ -181,7 +183,7 @@ impl Gate for Counting {
     }
 }
 
-/// Has two workers run on a board.
+/// Runs two workers on a board.
 pub fn run_two<R: Abort + Threads + Wait + Sync, G: Gate + Sync>(
     rt: &R,
     alloc: Global,

@@ -1,4 +1,5 @@
-//! Readers and writers that fail, are interrupted, or take little at a time, under each call that takes some.
+//! Tests of each call that takes a reader or a writer. The readers and writers fail, are interrupted, or take few bytes
+//! at a time.
 
 use crate::courses::cluster_after;
 use mencius_app::{
@@ -14,7 +15,8 @@ use std::sync::Wait;
 use std::test::Fail;
 use std::thread::Threads;
 
-// Answers Interrupted so many times, then gives the bytes in pieces, and fails at one of its calls.
+// A reader that first fails with Interrupted `interruptions` times, and then gives the bytes in pieces. It may also
+// fail at one of its calls.
 #[derive(Drop)]
 struct Pieces<'a> {
     bytes: &'a [u8],
@@ -42,7 +44,7 @@ impl Read for Pieces<'_> {
     }
 }
 
-// How a writer goes wrong.
+// The trouble of a writer.
 #[derive(Clone, Copy, PartialEq, Eq)]
 enum Trouble {
     None,
@@ -50,8 +52,8 @@ enum Trouble {
     TakesNothing,
 }
 
-// Answers Interrupted so many times, then takes the bytes in pieces, and is in trouble at one of
-// its calls.
+// A writer that first fails with Interrupted `interruptions` times, and then takes the bytes in pieces. It may also be
+// in trouble at one of its calls.
 #[derive(Drop)]
 struct Page<'a> {
     taken: &'a mut Vec<u8>,
@@ -86,7 +88,7 @@ impl Write for Page<'_> {
     }
 }
 
-// Which call is made.
+// The call under test.
 #[derive(Clone, Copy, Debug)]
 enum Call {
     Replay,
@@ -95,7 +97,7 @@ enum Call {
     Judge,
     Draw,
     Run,
-    // Of the cluster that `SCENARIO` makes. It reads nothing.
+    // The report of the cluster that `SCENARIO` makes. This call reads no input.
     Report,
 }
 
@@ -116,7 +118,7 @@ const TRACE: &str = "servers 2\n\
     server 0 front 0 executed 0 next 0 waiting -\n\
     server 1 front 1 executed 0 next 0 waiting -\n";
 
-// All that is drawn of it.
+// The options that draw the whole trace of `NO_EVENTS`.
 const WHOLE: Options = Options {
     first: 0,
     last: 0,
@@ -127,7 +129,7 @@ const LOG: &str = "submit 1.0 set a x\nexecute 0 1.0\nreply 1.0 none\n";
 
 const VERDICT: &str = "ok servers 1 commands 1 executed 1 replies 1 open 0 lookups 0\n";
 
-// The calls that read, with what is read, and what is written then.
+// The calls that read, each with its input and its output.
 const READS: [(Call, &str, &str); 5] = [
     (Call::Replay, SCENARIO, REPORT),
     (Call::Trace, NO_EVENTS, TRACE),
@@ -143,17 +145,17 @@ const READS: [(Call, &str, &str); 5] = [
     ),
 ];
 
-// The same of the call that only writes.
+// The call that only writes, with the scenario of its cluster and its output.
 const REPORTED: (Call, &str, &str) = (Call::Report, SCENARIO, REPORT);
 
-// What a judgement found, of a log that keeps all promises.
+// Passes on the failure of a judgement. If it did not fail, checks that the log keeps all promises.
 fn judged_in<R: Abort>(rt: &R, judged: Result<bool, Failure>) -> Result<(), Failure> {
     let all_kept = judged?;
     assert!(rt; all_kept);
     Ok(())
 }
 
-// Makes a call; a run is asked for its journal and looks `a` up.
+// Makes a call. A run prints its journal and looks up `a`.
 fn make<R: Abort + Threads + Wait + Sync>(
     rt: &R,
     alloc: Global,
@@ -188,7 +190,7 @@ fn reader<'a>(
     })
 }
 
-// A writer without what it has taken.
+// The behaviour of a writer, without the bytes that it has taken.
 #[derive(Clone, Copy)]
 struct Paper {
     piece: usize,
@@ -197,7 +199,7 @@ struct Paper {
     trouble_at: usize,
 }
 
-// What came of a call: its answer, how often its reader and its writer failed, and what was written.
+// The result of a call, the numbers of failures of its reader and its writer, and the bytes that were written.
 #[derive(Drop)]
 struct CallResult {
     answer: Result<(), AppFault>,
@@ -230,7 +232,7 @@ fn make_call<R: Abort + Threads + Wait + Sync>(
     }
 }
 
-// A call whose reader fails at one of its calls writes nothing.
+// Checks that a call writes no bytes if its reader fails at one of the reader's calls.
 fn assert_reads_at<R: Abort + Threads + Wait + Sync>(
     rt: &R,
     alloc: Global,
@@ -251,9 +253,9 @@ fn assert_reads_at<R: Abort + Threads + Wait + Sync>(
     assert!(rt; made.taken.is_empty());
 }
 
-// It does so at each of its calls in turn.
+// Checks a call whose reader fails, for each call of the reader in turn.
 fn assert_reads<R: Abort + Threads + Wait + Sync>(rt: &R, alloc: Global, call: Call, input: &str) {
-    // Three bytes a call, and one call more that finds the end.
+    // Each call reads three bytes. An additional call finds the end.
     let calls = input.len().div_ceil(3) + 1;
     for at in 0..calls {
         assert_reads_at(rt, alloc, call, input, at);
@@ -268,7 +270,7 @@ fn reader_fails_at_each_call(rt: HostRuntime) {
     assert_reads(&rt, rt.alloc(), Call::Draw, NO_EVENTS);
 }
 
-// A call whose reader and writer are interrupted so often at first is answered so.
+// Checks the result of a call whose reader and writer are first interrupted this many times.
 fn assert_answers<R: Abort + Threads + Wait + Sync>(
     rt: &R,
     alloc: Global,
@@ -294,7 +296,7 @@ fn assert_answers<R: Abort + Threads + Wait + Sync>(
     );
 }
 
-// How often the reader and the writer are interrupted at first, and the answer.
+// How often the reader and the writer are interrupted at first, and the result of the call.
 type Interrupted = ((u32, u32), Result<(), AppFault>);
 
 const WRITES: [Interrupted; 2] = [((0, 1000), Ok(())), ((0, 1001), Err(AppFault::WriteFailed))];
@@ -326,7 +328,8 @@ fn interruptions(rt: HostRuntime) {
     assert_interruptions(&rt, alloc, REPORTED, &WRITES);
 }
 
-// A call whose writer is in trouble where a byte of the text is to be written, has written what comes before.
+// Checks a call whose writer is in trouble at a byte of the text, for each byte in turn. The call must have written all
+// bytes before it.
 fn assert_stops<R: Abort + Threads + Wait + Sync>(
     rt: &R,
     alloc: Global,
@@ -370,7 +373,7 @@ fn writer_in_trouble_at_each_call(rt: HostRuntime) {
     }
 }
 
-// A picture is long, so its writer is in trouble at some of its bytes alone.
+// Checks only some bytes of a picture, because it is long. The writer is in trouble at each of them in turn.
 fn assert_stops_at_some<R: Abort + Threads + Wait + Sync>(
     rt: &R,
     alloc: Global,

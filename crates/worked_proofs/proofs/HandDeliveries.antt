@@ -1,4 +1,5 @@
--- One delivery among servers that are stepped by hand, from the laws of a server alone.
+-- After a delivery to one of three servers that a caller steps by itself, all three are at the longer trace. The laws
+-- of a server imply this.
 use Rattle.std.proofs.Common.{◌≡◌, ℕ, Bool, true, false, cond, List, [], ◌∷◌, ◌++◌, length, Option, None, Some, leb, Result, Ok, Err, OnOk, refl, sym, ap, ◌∙◌, subst}
 use Rattle.std.specs.Prelude.{IfOk, IsTrue, slice_get}
 use Rattle.mencius_base.specs.declared.event.Event.TheVariants.{Deliver}
@@ -30,7 +31,7 @@ both_none [] ds h none = none
 both_none (cause ∷ causes) ds h none =
     on_first cause.0 cause.1 (first_cause causes) (first_cause (causes ++ ds)) h (λ n. both_none causes ds n none)
 
--- a server that heard nothing is at the longer trace too
+-- a server that did not hear the message is also at the longer trace
 stays : LeavesOthers → (m : Membership) (w : Trace) (k p : ℕ) (s : ServerState) → IsAt w s → s.members ≡ m
     → refusal_cause m w (Deliver k p) ≡ None → (p ≡ s.id → ⊥) → IsAt (with_event m w (Deliver k p)) s
 stays law m w k p s at same fine ne =
@@ -45,7 +46,8 @@ stays law m w k p s at same fine ne =
       state = subst (λ (x : Membership). s ≡ server_at x (with_event m w e) s.id) (sym same) after;
     }
 
--- the message is what the receiver heard, and this is what the call left
+-- message x has number k, the network may deliver it to server r, and `after` and `sends` are the server and the outbox
+-- after that
 pub record IsDelivered (k : ℕ) (x : Message) (w : Trace) (r after : ServerState) (o sends : OutboxState) : Type 0 where
   pub addressed : IsTrue (is_for r.members r.id x)
   pub number : slice_get (sent_messages w) k ≡ Some x
@@ -81,7 +83,7 @@ delivered hear law w k x r after s z o sends at h others =
       limit = h.limit ∙ at.limit;
     }
 
--- so it is after a call that was not refused
+-- after a call that was not refused, all three servers are at the longer trace
 pub delivered_then : HearIsEvent → LeavesOthers → (result : Result ℕ Refusal) (x : Message)
     (r after s y : ServerState) (o z : OutboxState) → IsTrue (is_for r.members r.id x)
     → IfOk result (λ n. IsHeard r after o z x n)

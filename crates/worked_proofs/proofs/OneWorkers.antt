@@ -1,4 +1,4 @@
--- One worker's turns are in one order, and each is what the words drawn pick: so they come to one cluster.
+-- The turns of one worker have only one order, and the random words determine each turn, so they lead to one cluster.
 use Rattle.std.specs.Prelude.{slice_get, if◌then◌else◌}
 use Rattle.std.specs.Option.{option_map_or}
 use Rattle.std.proofs.Common.{◌≡◌, ℕ, zero, suc, ◌+◌, ◌==◌, ◌⊎◌, Bool, true, false, List, [], ◌∷◌, ◌++◌, Option, Some, None, Result, Ok, Err, map, set, refl, sym, ◌∙◌, ap, subst, arith, inl, inr}
@@ -29,7 +29,7 @@ use Rattle.worked_proofs.specs.OneWorker.{OneCluster, OneText}
 
 -- ---- a step
 
--- the cluster that an event leaves, which it refuses for this cause
+-- the cluster after an event that was accepted, or that was refused for this cause
 abbrev after_cause : ClusterState → Event → Option Refusal → ClusterState
 after_cause x e None = record { members = x.members; hasher = x.hasher; journal = x.journal ++ e ∷ [] }
 after_cause x e (Some r) = x
@@ -80,7 +80,7 @@ one_choice old new new' x e e' h h' =
     let taken = one_taken (pick_at old x) old.left new.left new'.left e e' h.taken h'.taken in
     (taken.0, same_chooser new new' (h.plan ∙ sym h'.plan) (h.drawing ∙ sym h'.drawing) taken.1)
 
--- a turn that ends well takes this chooser and this cluster here
+-- a turn that succeeds leads from chooser c and cluster x to chooser d and cluster y
 abbrev TakesOne : ChooserState → ClusterState → ChooserState → ClusterState → Type 0
 TakesOne c x d y = (e : Event) × IsChoice c x e d × (y ≡ after_event x e)
 
@@ -110,7 +110,7 @@ took_turn c d before board after false (Err f) answer e is then_is =
 
 -- ---- all turns
 
--- so many turns do
+-- n turns that succeed lead from chooser c and cluster x to chooser d and cluster y
 abbrev TakesAll : ChooserState → ClusterState → ℕ → ChooserState → ClusterState → Type 0
 TakesAll c x zero d y = (d ≡ c) × (y ≡ x)
 TakesAll c x (suc n) d y = (b : ChooserState) × (z : ClusterState) × TakesAll c x n b z × TakesOne b z d y
@@ -137,7 +137,7 @@ no_other (suc k) c d e there = cc
 
 module _ (plan : PlanState) (old : BoardState)
     (alone : map (first_chooser plan) (numbers_below plan.workers) ≡ first_chooser plan 0 ∷ []) where
-  -- the one worker has come so far
+  -- the one worker took n turns from the first state of the run to this state
   abbrev HasCome : ℕ → RunState → Type 0
   HasCome n s =
       (c : ChooserState) × (s.choosers ≡ c ∷ [])

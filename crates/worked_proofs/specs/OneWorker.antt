@@ -1,4 +1,4 @@
--- A run of one worker has one text.
+-- A run with one worker has one text.
 use Rattle.std.specs.Prelude.{ℕ, ◌≡◌, Bool, List, Option, Some, Ok}
 use Rattle.mencius_base.specs.Plan.{PlanState}
 use Rattle.mencius_board.specs.Boards.{BoardState}
@@ -8,12 +8,12 @@ use Rattle.mencius_input.specs.Plan.{plan}
 use Rattle.mencius_app.specs.Input.{unless_long}
 use Rattle.mencius_app.specs.Run.{IsRunOf}
 
--- on boards with the same cluster, all turns of a plan with one worker come to the same cluster
+-- all turns of a plan with one worker lead to the same cluster from any two boards with equal clusters
 abbrev pub OneCluster : Type 0
 OneCluster = (plan : PlanState) (old other new other_new : BoardState) → plan.workers ≡ 1 → old.cluster ≡ other.cluster
     → HasRun plan old new → HasRun plan other other_new → new.cluster ≡ other_new.cluster
 
--- two texts of a run by the same bytes are the same, where these say a plan with one worker
+-- if these bytes say a plan with one worker, any two texts of a run of these bytes with the same options are equal
 abbrev pub OneText : Type 0
 OneText = (bytes : List ℕ) (with_journal with_observations : Bool) (key : Option (List ℕ)) (text other : List ℕ)
     (written : Scenario PlanState) → unless_long plan bytes ≡ Ok written → written.course.workers ≡ 1

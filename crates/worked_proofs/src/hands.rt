@@ -1,7 +1,7 @@
-//! What a simulator with a network of its own can conclude of the servers that it steps.
+//! Conclusions that a simulator with its own network can draw about the servers that it steps.
 //!
-//! Nothing here sees inside a server, and no cluster stands behind it. The proof rests on what the
-//! call promises, and on the laws.
+//! Nothing here looks inside a server, and no cluster is involved. The proof rests on the promises of the call and on
+//! the laws.
 
 ghost use Rattle.mencius_base.specs.Message.{is_for};
 ghost use Rattle.mencius_base.specs.Outbox.{outbox_full};
@@ -16,17 +16,20 @@ ghost use Rattle.std.specs.Prelude.{IfOk, IsTrue, None, OnErr, OnOk, Some, lengt
 use mencius_base::{Message, Outbox, Refusal};
 use mencius_server::{Server, laws};
 
-/// Delivers a message to one of three servers of a cluster, and answers how many instances it
-/// learned. The two others stand here for the contract alone.
+/// Delivers a message to one of three servers of a cluster. Returns the number of instances that this server learned
+/// from it. Only the contract needs the two other servers.
 ///
-/// Where all three are at a trace, the outbox has its messages, and the network has no cause to
-/// refuse the delivery, all three are at the longer trace afterwards, and the outbox has its
-/// messages. What the network may refuse it for is a server that is none, a number that no message
-/// has, a message that is not for the server, or one that was lost on the way.
+/// Assume that all three servers are at a trace, that the outbox has its messages, and that the network has no cause to
+/// refuse the delivery. Then all three servers are at the longer trace afterwards, and the outbox has the messages of
+/// the longer trace. The network may refuse a delivery for these causes:
+///
+/// - The trace already has the greatest number of events.
+/// - The server does not exist, or no message has this number.
+/// - The message is not for the server, or it was lost on the way to the server.
 ///
 /// # Errors
 ///
-/// Those of [`Server::hear`]. Server and messages are then as before.
+/// Fails with the errors of [`Server::hear`]. The server and the messages are then as before.
 pub fn deliver(
     receiver: &mut Server,
     second: &Server,
@@ -47,9 +50,9 @@ pub fn deliver(
         (outbox_full out.old (length (sent_on receiver.old message.now))) result }
     ensures err { OnErr result (IsUndone receiver.old receiver.new out.old out.new) }
 {
-    // The two others are asked for nothing but their numbers.
+    // The two other servers are only read for their numbers.
     let _within_limit = (second.id(), third.id()); // proof: both are members
-    // The laws are called for their promises alone.
+    // The calls of the laws only give their promises to the proof.
     laws::events(); // proof: how an event changes a server
     laws::isolation(); // proof: an event leaves other servers alone
     receiver.hear(message, out)

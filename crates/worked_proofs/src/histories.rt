@@ -1,8 +1,10 @@
-//! What a caller can conclude from the public clauses of a cluster and its laws alone.
+//! Conclusions that a caller can draw from the public contracts of a cluster and its laws alone.
 //!
-//! Nothing here sees inside a cluster. The proofs rest on what the calls promise: that a cluster's
-//! journal replays, that a step puts its event at the journal's end, and what the laws say of each
-//! journal that replays.
+//! Nothing here looks inside a cluster. The proofs rest on these promises of the calls and the laws:
+//!
+//! - The journal of a cluster replays.
+//! - A step puts its event at the end of the journal.
+//! - The laws state facts about each journal that replays.
 
 ghost use Rattle.std.specs.Prelude.{List, ◌≡◌, ◌++◌, ◌↔◌, OnOk, OnErr, IfOk, IfErr, IfSome, IsSome};
 ghost use Rattle.mencius_base.specs.Members.{IsMember};
@@ -16,7 +18,7 @@ use mencius_base::{Event, NoMemory, Refusal};
 use mencius_cluster::{Cluster, laws};
 use std::alloc::Global;
 
-/// The history of a server, and the history of the same or another server after some more events.
+/// The history of a server, and the history of the same or another server after further events.
 #[derive(Debug, Drop)]
 pub struct TwoHistories {
     /// The tickets that the first server had executed before the events, in order.
@@ -25,12 +27,12 @@ pub struct TwoHistories {
     pub later: Vec<u32>,
 }
 
-/// Notes the history of a server, steps the cluster through the events, passing over those that it
-/// refuses, and then notes the history of the same or another server. Of the two histories one
-/// is a prefix of the other, and where both are one server's the earlier is one of the later.
+/// Notes the history of a server, steps the cluster through the events, and then notes the history of the same or
+/// another server. It skips the events that the cluster refuses. One of the two histories is a prefix of the other. If
+/// both belong to one server, the earlier history is a prefix of the later history.
 ///
-/// `BadServer` comes where one of the servers is no member, and then nothing has changed. After
-/// `NoMemory` the cluster may have taken some of the events.
+/// It fails with `BadServer` if one of the servers is not a member, and then nothing has changed. After `NoMemory`, the
+/// cluster may have taken some of the events.
 pub fn note_across(
     alloc: Global,
     cluster: &mut Cluster,
@@ -38,18 +40,18 @@ pub fn note_across(
     events: Vec<Event>,
     other: u8,
 ) -> Result<TwoHistories, Refusal>
-    // Which histories were noted, and what became of the cluster.
+    // The histories that were noted, and the change of the cluster.
     ensures histories { IfOk result (AreHistoriesAcross cluster.old cluster.new server other) }
     ensures journal { OnOk result (cluster.new.journal ≡ cluster.old.journal
         ++ accepted_from cluster.old.members (trace_of cluster.old) events.items) }
     ensures same { SameMembersAndHasher cluster.old cluster.new }
 
-    // What a caller concludes.
+    // The conclusion for the caller.
     ensures agree { IfOk result (AgreeAcross server other) }
 
     ensures refusal { IfErr result (IsRefusalAcross cluster.old cluster.new server other) }
 {
-    // The laws, and `replays` below, are called for their promises alone.
+    // The calls of the laws, and of `replays` below, only give their promises to the proof.
     laws::agreement(); // proof: histories agree
     laws::growth(); // proof: histories only grow
     let servers = cluster.servers();
@@ -64,8 +66,8 @@ pub fn note_across(
     Ok(TwoHistories { earlier, later })
 }
 
-/// The histories of two servers at one moment, of which one is a prefix of the other, or `None` where
-/// one of them is no member.
+/// Returns the histories of two servers at one moment, or `None` if one of the servers is not a member. One of the two
+/// histories is a prefix of the other.
 pub fn histories(cluster: &Cluster, first: u8, second: u8) -> Option<(&[u32], &[u32])>
     ensures some { IsSome result
         ↔ ((IsMember cluster.now.members first) × (IsMember cluster.now.members second)) }
@@ -73,13 +75,13 @@ pub fn histories(cluster: &Cluster, first: u8, second: u8) -> Option<(&[u32], &[
     ensures second { IfSome result (λ h. h.1.now ≡ history (trace_of cluster.now) second) }
     ensures comparable { IfSome result (λ h. IsComparable h.0.now h.1.now) }
 {
-    // Called for their promises alone.
+    // These two calls only give their promises to the proof.
     laws::agreement(); // proof: histories agree
     cluster.replays(); // proof: the journal replays to the trace
     Some((cluster.history(first)?, cluster.history(second)?))
 }
 
-// Steps a cluster through the events, passing over those that it refuses.
+// Steps a cluster through the events, and skips the events that it refuses.
 fn step_all(cluster: &mut Cluster, events: Vec<Event>) -> Result<(), NoMemory>
     ensures journal { OnOk result (cluster.new.journal ≡ cluster.old.journal
         ++ accepted_from cluster.old.members (trace_of cluster.old) events.items) }

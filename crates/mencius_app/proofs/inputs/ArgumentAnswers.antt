@@ -1,4 +1,4 @@
--- What is printed for arguments that ask for no task, as a call.
+-- A call whose arguments do not request a task ends as the definitions say.
 use Rattle.std.proofs.Common.{◌≡◌, ◌≢◌, ◌⊎◌, ◌≤◌, ◌+◌, ◌∙◌, arith, [], inl, inr, ℕ, true, false, List, Option, Some, None, IfSome, String, Global, string_bytes, refl, sym, subst, ap}
 use Rattle.std.specs.Io.KnownBytes.{Appends, Keeps}
 use Rattle.clap.specs.Words.{IsAmong, Text}
@@ -22,7 +22,7 @@ keeps : (known : Option (List ℕ)) → Keeps known known
 keeps None = tt
 keeps (Some bytes) = refl
 
--- one of the arguments is not text
+-- a call with an argument that is not text ends with `BadCommandLine`
 pub not_text : (arguments : List Text) (state written : StreamState) → are_texts arguments ≡ false
     → EndsCall arguments (streams state state written written) BadCommandLine
 not_text arguments state written none = record {
@@ -36,7 +36,7 @@ not_text arguments state written none = record {
   asked = asks_little _ _ (asks_nothing state) (omega arith);
 }
 
--- the arguments, and an error of this kind that they have unless memory ran out
+-- a call whose arguments have an error of this kind, or that ran out of memory, ends as the definitions say
 module _ {W : Type 0} (state_of : W → StreamState) (arguments : List Text) (kind : ErrorKind) (state : StreamState)
     (empty full : W) (ending : Ending)
     (has : (kind ≡ OutOfMemory) ⊎ IsAmong kind (faults (line_of arguments))) (texts : are_texts arguments ≡ true)

@@ -1,4 +1,4 @@
--- What a check reads of an input.
+-- A check finds the kind of a scenario, and its result or fault is right for this kind.
 use Rattle.std.proofs.Common.{◌≡◌, ◌≢◌, ◌≤◌, ◌⊎◌, inl, inr, ℕ, List, length, Option, Some, None, IfSome, IfOk, IfErr, Result, Ok, Err, String, Global, string_bytes, ap, sym, subst, ◌∙◌}
 use Rattle.mencius_io.specs.declared.fault.IoFault.{IoFault}
 use Rattle.mencius_io.specs.declared.fault.IoFault.TheVariants.{BadShape, NoMemory}
@@ -22,7 +22,7 @@ use Rattle.mencius_base.specs.Plan.{PlanState}
 
 -- ---- by kind
 
--- words of a fault that bytes have as a scenario of this kind
+-- the words explain the fault of these bytes as a scenario of this kind
 abbrev pub AreWordsAs : Kind → IoFault → List ℕ → Option (String Global) → Type 0
 AreWordsAs kind fault bytes words =
     IfSome words (λ said. Explains kind fault bytes (string_bytes said))
@@ -40,14 +40,15 @@ words_of_memory kind fault bytes None memory h = tt
 words_of_memory kind fault bytes (Some said) memory h =
     subst (λ f. Explains (kind_in bytes) f bytes (string_bytes said)) (sym memory) tt
 
--- what is read as a scenario of `replay` is checked as one
+-- bytes that are read as a scenario of `replay` are checked as such a scenario
 pub replay_checked : (bytes : List ℕ) (written : Scenario (List Event)) → scenario bytes ≡ Ok written
     → either_scenario bytes ≡ Ok (replay_scenario written)
 replay_checked bytes written e =
     let meant = meant_as_replay bytes (λ bad. (let other = sym e ∙ bad in absurd (cc))) in
     subst (λ k. scenario_of_kind k bytes ≡ Ok (replay_scenario written)) (sym meant) (ap as_replay e)
 
--- and what is meant as one has the fault that it has as one
+-- bytes that are meant as a scenario of `replay` are checked with the fault that they have as such a scenario, unless
+-- memory ran out
 pub replay_fault : (bytes : List ℕ) (fault : IoFault) → kind_in bytes ≡ kind.Replay → FailsBy fault (scenario bytes)
     → (fault ≡ NoMemory) ⊎ (either_scenario bytes ≡ Err fault)
 replay_fault bytes fault meant fails = elim (failing fault (scenario bytes) fails) [
@@ -55,7 +56,7 @@ replay_fault bytes fault meant fails = elim (failing fault (scenario bytes) fail
   | inr e ↦ inr (subst (λ k. scenario_of_kind k bytes ≡ Err fault) (sym meant) (ap as_replay e))
 ]
 
--- so of a run's
+-- bytes that are meant as a scenario of `run` are checked as such a scenario
 pub run_checked : (bytes : List ℕ) (written : Scenario PlanState) → kind_in bytes ≡ kind.Run → plan bytes ≡ Ok written
     → either_scenario bytes ≡ Ok (run_scenario written)
 run_checked bytes written meant e =
@@ -68,7 +69,7 @@ run_fault bytes fault meant fails = elim (failing fault (plan bytes) fails) [
   | inr e ↦ inr (subst (λ k. scenario_of_kind k bytes ≡ Err fault) (sym meant) (ap as_run e))
 ]
 
--- a fault other than a bad shape is that of a scenario of `replay`, unless memory ran out
+-- a fault other than `BadShape` is the fault of a scenario of `replay`, unless memory ran out
 pub other_fault : (bytes : List ℕ) (fault : IoFault) → fault ≢ BadShape → FailsBy fault (scenario bytes)
     → (fault ≡ NoMemory) ⊎ ((kind_in bytes ≡ kind.Replay) × (either_scenario bytes ≡ Err fault))
 other_fault bytes fault other fails = elim (failing fault (scenario bytes) fails) [

@@ -1,4 +1,4 @@
--- What is read of an input, and why a task made no text.
+-- Reading an input gives the content of its bytes, or a fault that has a cause.
 use Rattle.std.proofs.Common.{◌≡◌, ◌≢◌, ◌≤◌, ◌<◌, ◌⊎◌, inl, inr, ℕ, Bool, true, false, cond, List, length, Option, Some, None, IfSome, IfOk, IfErr, Result, Ok, Err, String, Global, string_bytes, refl, ap, sym, subst, ◌∙◌, arith}
 use Rattle.std.specs.Option.{option_map_or}
 use Rattle.std.specs.Result.{IsErrAnd}
@@ -20,13 +20,13 @@ use Rattle.mencius_app.specs.Tasks.{IsReadingCause}
 
 -- ---- long inputs
 
--- an input that is not too long says what its bytes say
+-- an input that is not too long gives the result of reading its bytes
 pub says_by_bytes : {X : Type 0} (read : List ℕ → Result X IoFault) (bytes : List ℕ) → length bytes ≤ most_bytes
     → unless_long read bytes ≡ read bytes
 says_by_bytes read bytes short =
     ap (λ (a : Bool). cond a (Err BadLimit) (read bytes)) (le-ltb most_bytes (length bytes) short)
 
--- one that is too long is past a limit
+-- an input that is too long has the fault `BadLimit`
 long_fault : {X : Type 0} (read : List ℕ → Result X IoFault) (known : Option (List ℕ))
     → IfSome known (λ bytes. most_bytes < length bytes) → HasFault (unless_long read) known BadLimit
 long_fault read None h = tt
@@ -38,7 +38,7 @@ long_fault read (Some bytes) h =
 abbrev pub IsBadInput : IoFault → Type 0
 IsBadInput fault = (fault ≡ NotJson) ⊎ (fault ≡ BadShape) ⊎ (fault ≡ BadLimit)
 
--- what is judged has no other fault
+-- the fault of a value is always a bad input
 value_fault_bad : {X : Type 0} (fits : X → Bool) (o : Option X) (fault : IoFault) → value_or_fault fits o ≡ Err fault
     → IsBadInput fault
 value_fault_bad fits None fault e = inr (inl (cc))
@@ -58,7 +58,7 @@ scenario_bad bytes fault e = json_bad is_within_limits written_of (json_of bytes
 pub plan_bad : (bytes : List ℕ) (fault : IoFault) → plan bytes ≡ Err fault → IsBadInput fault
 plan_bad bytes fault e = json_bad (is_scenario_within is_plan_within) (scenario_of run_names plan_read) (json_of bytes) fault e
 
--- a bad input is no failed reader or writer
+-- a bad input is not a failed reader, a failed writer or a lack of memory
 other_bad : (fault other : IoFault) → fault ≡ other → (other ≢ NotJson) × (other ≢ BadShape) × (other ≢ BadLimit)
     → IsBadInput fault → ⊥
 other_bad fault other e none (inl h) = none.0 (sym e ∙ h)
@@ -76,12 +76,12 @@ no_memory fault bad e = other_bad fault NoMemory e (λ h. absurd (cc), λ h. abs
 
 -- ---- reading
 
--- what holds of the fault holds of the result that hands it on
+-- a property of an error holds for each result that passes the error on
 pub at_err : {T E : Type 0} (r : Result T E) (error : E) (P : E → Type 0) → IsErrAnd r (λ e. e ≡ error) → P error
     → IfErr r P
 at_err r error P is h = let failed = err_from_is_err_and r is in rw (failed.1, failed.2) h
 
--- memory ran out
+-- a lack of memory is always a cause
 pub own_cause : {F : Option (List ℕ) → IoFault → Type 0} {old new : StreamState} {fault : IoFault} → fault ≡ NoMemory
     → IsReadingCause F old new fault
 own_cause {F} {old} {new} {fault} memory = record {
@@ -101,7 +101,7 @@ own_failure {F} {Tells} {old} {new} failure own = record {
   words = if_none (λ words. ExplainsIn Tells old.bytes failure.fault (string_bytes words)) failure.words own.1;
 }
 
--- so of a result that hands it on
+-- a result that passes on a lack of memory has a failure with a cause
 pub own_result : {T : Type 0} (F : Option (List ℕ) → IoFault → Type 0) (Tells : Explanation) (old new : StreamState)
     (r : Result T Failure) → IsErrAnd r (λ failure. (failure.fault ≡ NoMemory) × (failure.words ≡ None))
     → IfErr r (FailsReading F Tells old new)
@@ -127,7 +127,7 @@ unread_cause read old new fault (inr (inl broken)) long failed = record {
 }
 unread_cause read old new fault (inr (inr memory)) long failed = own_cause memory
 
--- a failed reader, or too little memory, may be explained by any words
+-- the rule allows any words for a failed reader and for a lack of memory
 abbrev pub IsFree : Explanation → Type 0
 IsFree Tells = (fault : IoFault) → (fault ≡ ReadFailed) ⊎ (fault ≡ NoMemory) → (bytes words : List ℕ)
     → Tells fault bytes words
@@ -196,11 +196,11 @@ known_words Tells None text fault (Some said) same h = tt
 known_words Tells (Some all) text fault (Some said) same h =
     inl (subst (λ bytes. Tells fault bytes (string_bytes said)) (sym same) h)
 
--- a slice is as short as its vector
+-- a slice with the length of a vector has the same limit
 pub short : (length_of most : ℕ) {n : ℕ} → n ≡ length_of → length_of ≤ most → n ≤ most
 short length_of most same few = omega (arith, same, few)
 
--- the bytes that were read have only these faults
+-- all bytes of the reader were read, and reading them as a scenario has only the faults of bad inputs
 module _ {Y : Type 0} (read : List ℕ → Result Y IoFault)
     (bad : (bytes : List ℕ) (fault : IoFault) → read bytes ≡ Err fault → IsBadInput fault)
     (old : StreamState) (bytes text : List ℕ) (whole : IfSome old.bytes (λ all. bytes ≡ all))
@@ -234,7 +234,7 @@ module _ {Y : Type 0} (read : List ℕ → Result Y IoFault)
     words = known_words Tells old.bytes text failure.fault failure.words (same_text old.bytes whole) words;
   }
 
-  -- a failure with the fault of the answer
+  -- a failure that has the fault of reading the text has a cause, and its words explain the fault
   pub misread_with : (Tells : Explanation) (new : StreamState) (fault : IoFault) (failure : Failure)
       → failure.fault ≡ fault → FailsBy fault (read text)
       → IfSome failure.words (λ words. Tells fault text (string_bytes words))

@@ -1,4 +1,4 @@
--- Why there is no picture: there is no trace, or the picture would be too large.
+-- If a picture is not drawn, the input gives no trace, the picture would be too large, or memory ran out.
 use Rattle.std.proofs.Common.{◌≡◌, ◌<◌, ◌∙◌, inl, inr, ℕ, List, Option, Some, None, IfSome, String, Global, string_bytes, refl, sym}
 use Rattle.mencius_io.specs.Streams.{StreamState}
 use Rattle.mencius_io.specs.declared.failure.Failure.{Failure}
@@ -22,7 +22,7 @@ picture_words o None fault (Some said) h = tt
 picture_words o (Some bytes) fault (Some said) (inl told) = inl (inl told)
 picture_words o (Some bytes) fault (Some said) (inr long) = inr long
 
--- why there is no scenario is also why there is no picture
+-- a failure to read a scenario is also a failure to draw its picture, with the same cause and words
 pub without_scenario : (o : Options) (old new : StreamState) (failure : Failure)
     → FailsReading (HasFault (unless_long scenario)) (ExplainsAs Replay) old new failure
     → FailsReading (draw_task o).IsBadInput (ExplainsPicture o) old new failure
@@ -44,7 +44,7 @@ large_words o None trace fault (Some said) is limit large h = tt
 large_words o (Some bytes) trace fault (Some said) is limit large h =
     inl (inr (limit, levels_in o trace, (trace, is, refl, large), h))
 
--- the picture of a trace is refused
+-- the refusal to draw the picture of a trace is a failure of the task
 pub without_picture : (o : Options) (old new : StreamState) (trace : List ℕ) (failure : Failure)
     → IsTraceOf old.bytes trace → IsRefusedAs o trace failure
     → FailsReading (draw_task o).IsBadInput (ExplainsPicture o) old new failure

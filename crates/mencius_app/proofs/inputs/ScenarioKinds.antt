@@ -1,4 +1,4 @@
--- What has the shape of a scenario of `replay` is meant as one.
+-- Bytes that have the shape of a scenario of `replay` are meant as such a scenario.
 use Rattle.std.proofs.Common.{◌≡◌, ◌≢◌, Bool, true, false, cond, not, List, ℕ, Option, Some, None, is_some, codes, Err, refl, ap}
 use Rattle.std.specs.Prelude.{◌&&◌}
 use Rattle.std.specs.Option.{option_map_or}
@@ -22,7 +22,7 @@ run_said None e = absurd (cc)
 run_said (Some d) e =
     ap (value_or_fault is_within_limits) (no_events_said d (has_none (get (codes "events") d) (has_run_field d) e))
 
--- what is meant as a run's has another shape
+-- bytes that are meant as a scenario of `run` do not have the shape of a scenario of `replay`
 pub run_misshapen : (bytes : List ℕ) → kind_in bytes ≡ Run → scenario bytes ≡ Err BadShape
 run_misshapen bytes e = by_count (is_crowded bytes) e where
   by_count : (many : Bool) → cond many Replay (kind_said (json_of bytes)) ≡ Run → scenario bytes ≡ Err BadShape

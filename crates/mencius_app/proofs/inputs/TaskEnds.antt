@@ -1,4 +1,4 @@
--- A task that made a text writes it, and a call ends as its task does.
+-- A task writes the text that it made, and a call ends as its task does.
 use Rattle.std.specs.Prelude.{not, OnOk}
 use Rattle.std.proofs.Common.{◌≡◌, ◌≢◌, ◌≤◌, ◌+◌, ◌&&◌, ◌∙◌, arith, inl, inr, ℕ, Bool, true, false, cond, List, [], Option, Some, None, IfSome, IfOk, IfErr, Result, Ok, Err, String, Global, string_bytes, refl, sym, subst, ap}
 use Rattle.std.specs.Io.KnownBytes.{Keeps}
@@ -29,7 +29,7 @@ keeps : (known : Option (List ℕ)) → Keeps known known
 keeps None = tt
 keeps (Some bytes) = refl
 
--- the failure came before anything was written
+-- if a task fails while reading and keeps the output as it was, this is a failure of the task
 pub unwritten : (t : Task) (Tells : Explanation) (s : Streams) (failure : Failure)
     → FailsReading t.IsBadInput Tells s.reader s.reader_now failure → Keeps s.writer.bytes s.writer_now.bytes
     → Fails t Tells s failure
@@ -45,7 +45,7 @@ unwritten t Tells s failure h kept = record {
 }
 
 module _ (t : Task) (Tells : Explanation) (s : Streams) where
-  -- a text that was made is written, or the writer failed
+  -- a task writes the text that it made, or the writer fails
   pub wrote : (output : Output) (r : Result Bool Failure) → IsOutput t s.reader.bytes output
       → Delivers (Ok output) s.writer s.writer_now r → IfOk r (Writes t s)
   wrote output (Ok is_clean) made given =
@@ -67,7 +67,7 @@ module _ (t : Task) (Tells : Explanation) (s : Streams) where
         words = tt;
       })
 
-  -- whatever was made
+  -- a task that made a text or failed ends as the definitions say
   pub delivered : (made : Result Output Failure) (r : Result Bool Failure) → IfOk made (IsOutput t s.reader.bytes)
       → Delivers made s.writer s.writer_now r → IfOk r (Writes t s)
   delivered (Ok output) r is given = wrote output r is given
@@ -83,7 +83,7 @@ module _ (t : Task) (Tells : Explanation) (s : Streams) where
       subst (λ x. IfErr x (Fails t Tells s)) (sym given) (unwritten t Tells s failure fails
       (subst (λ w. Keeps s.writer.bytes w.bytes) (sym same) (keeps s.writer.bytes)))
 
--- a run failed before anything was written
+-- if a run fails while reading and keeps the output as it was, this is a failure of its task, unless the board failed
 pub unwritten_run : (t : Task) (Tells : Explanation) (old new writer : StreamState) (failed : RunFailure)
     → UnlessBoard (FailsReading t.IsBadInput Tells old new) failed
     → UnlessBoard (Fails t Tells (streams old new writer writer)) failed
@@ -93,7 +93,7 @@ unwritten_run t Tells old new writer run.BoardFailed h = tt
 
 -- ---- a task
 
--- how much a task asks of its streams, if it asked so much of its reader
+-- if a task limits its use of the reader and the failed calls of its writer, it limits its use of both streams
 pub asks_little : (task : TaskState) (s : Streams) → AsksReader s.reader s.reader_now
     → s.writer_now.failures ≤ s.writer.failures + most_failed_calls → AsksAs task s
 asks_little (asked_replay is_strict) s reader few = record { reader = reader; tried = few }
@@ -104,7 +104,7 @@ asks_little asked_judge s reader few = (reader.tried, few)
 asks_little (asked_run with_journal with_observations key) s reader few = record { reader = reader; tried = few }
 
 module _ (task : TaskState) (s : Streams) (asks : AsksAs task s) where
-  -- a task that came to this
+  -- a task that wrote its text, or failed with a cause, has the ending of this result
   pub task_ended : (is_reported : Bool) → is_reported ≡ is_reporting task → (r : Result Bool Failure)
       → IfOk r (Writes (task_of task) s) → IfErr r (Fails (task_of task) (explanation_of task) s)
       → EndsTask task s (ending_of is_reported r)
@@ -144,7 +144,7 @@ module _ (task : TaskState) (s : Streams) (asks : AsksAs task s) where
     asked_little = asks;
   }
 
--- a task ends as writing what it made comes out
+-- the ending of a task follows from the result of writing its text
 pub task_done : {W : Type 0} (writer : W → StreamState) (old new : W) (task : TaskState) (from to : StreamState)
     (is_reported : Bool) (made : Result Output Failure) (r : Result Bool Failure) → is_reported ≡ is_reporting task
     → IfOk made (IsOutput (task_of task) from.bytes)
@@ -158,7 +158,7 @@ task_done writer old new task from to is_reported made r reported is fails given
     (delivered (task_of task) (explanation_of task) s made r is given)
     (undelivered (task_of task) (explanation_of task) s writer old new refl refl made r is fails given kept)
 
--- the task, what it made and its reader may have other names
+-- the ending of a task follows in the same way if the task, its text and its reader have other names
 pub task_done_as : {S W : Type 0} (reader : S → StreamState) (writer : W → StreamState) (task known : TaskState)
     (from to after : S) (old new : W) (made output : Result Output Failure × Bool) (r : Result Bool Failure)
     → task ≡ known → to ≡ after → made ≡ output → output.1 ≡ is_reporting known
@@ -179,7 +179,7 @@ task_done_as reader writer task known from to after old new made output r same_t
     (FailsReading (task_of known).IsBadInput (explanation_of known) (reader from) (reader after))) (sym same) fails)
     given kept asks))
 
--- a task whose text is always clean, or which may fail at its board
+-- the ending of a run follows from its result, with a text that is always clean or a failed board
 pub run_ended : (task : TaskState) (s : Streams) → is_run task ≡ true → AsksAs task s → is_reporting task ≡ false
     → {T : Type 0} (r : Result T RunFailure) → OnOk r (Writes (task_of task) s true)
     → IfErr r (UnlessBoard (Fails (task_of task) (explanation_of task) s)) → EndsTask task s (ending_of_run r)
@@ -208,7 +208,7 @@ run_ended task s is_run asks silent (Err run.BoardFailed) wrote fails = record {
   asked_little = asks;
 }
 
--- only the board of a run fails
+-- an ending with a failed board comes only from a run whose board failed
 pub board_of_run : {T : Type 0} (r : Result T RunFailure) → ending_of_run r ≡ BoardFailed → r ≡ Err run.BoardFailed
 board_of_run (Ok x) e = absurd (cc)
 board_of_run (Err (run.Failed failure)) e = absurd (cc)
@@ -223,7 +223,7 @@ no_board is_reported (Err failure) e = absurd (cc)
 
 -- ---- a call
 
--- a call whose arguments ask for the task
+-- if the arguments request a task, the call ends as its task does
 module _ (arguments : List Text) (task : TaskState) (asks : AsksFor arguments task) where
   call_cause : (s : Streams) (fault : IoFault) → IsCause (task_of task) s fault → IsCause (call_task arguments) s fault
   call_cause s fault h = record {
@@ -273,12 +273,12 @@ module _ (arguments : List Text) (task : TaskState) (asks : AsksFor arguments ta
     asked = subst (λ a. AsksAs a s) (sym asks.2) h.asked_little;
   }
 
-  -- it reads its input
+  -- `IsUnread` does not hold for such a call, unless its arguments are refused
   pub call_reads : (ending : Ending) → ending ≢ BadCommandLine → IsUnread arguments ending → ⊥
   call_reads ending not_refused (inl refused) = not_refused refused
   call_reads ending not_refused (inr some) = some asks.1
 
--- what holds of the ending, or of the run that is left
+-- a property of an ending carries over to an ended call, and a property of options carries over to a run that is left
 pub ended_also : (begun : Begun) (P Q : Ending → Type 0) → ((ending : Ending) → P ending → Q ending) → IfEnded P begun
     → IfEnded Q begun
 ended_also (Ended ending) P Q also h = also ending h
@@ -289,7 +289,7 @@ pub run_also : (begun : Begun) (P Q : RunOptions → Type 0) → ((options : Run
 run_also (Ended ending) P Q also h = tt
 run_also (Run options) P Q also h = also options h
 
--- ---- nothing is asked of the reader
+-- ---- a reader that was not used
 
 unread_takes : (known : Option (List ℕ)) → TakesAtMost (most_bytes + 1) known known
 unread_takes None = ([], omega arith, tt)

@@ -1,4 +1,4 @@
--- A text that is written after another one.
+-- Two texts that are written one after the other count as one text.
 use Rattle.std.proofs.Common.{◌≡◌, ◌⊎◌, inl, inr, ℕ, ◌+◌, ◌^◌, ◌<◌, ◌≤◌, List, ◌++◌, Option, length, take, arith, subst, sym}
 use Rattle.std.specs.Prelude.{Result, Ok, Err, OnErr, OnOk}
 use Rattle.std.specs.Io.KnownBytes.{Appends}
@@ -8,7 +8,7 @@ use Rattle.std.proofs.lemmas.List.{length-append}
 use Rattle.mencius_io.specs.Streams.{HasFailed, StreamState, WritesFront, most_failures}
 use Rattle.mencius_app.specs.Calls.{WritesOrFails}
 
--- a front of the second text, behind the first
+-- a prefix of the second text, after the whole first text, is a prefix of both texts together
 pub front_behind : (old mid new : Option (List ℕ)) (xs ys : List ℕ) → Appends old mid xs → WritesFront mid new ys
     → WritesFront old new (xs ++ ys)
 front_behind old mid new xs ys h (n, few, l) = (
@@ -17,7 +17,7 @@ front_behind old mid new xs ys h (n, few, l) = (
   subst (Appends old new) (sym (take-append-add xs ys n)) (Appends-trans old mid new xs (take n ys) h l),
 )
 
--- a failure after calls that left the count or raised it
+-- a failure still counts after calls that left the count of failures or raised it
 pub failed_behind : (old mid new : ℕ) → (old ≤ mid) ⊎ (mid ≡ most_failures) → new < 2 ^ 64 → HasFailed mid new
     → HasFailed old new
 failed_behind old mid new (inl more) small (inl rose) = inl (omega arith)
@@ -28,7 +28,7 @@ pub on_err_also : {T F : Type 0} (r : Result T F) (P Q : Type 0) → (P → Q) �
 on_err_also (Ok x) P Q also h = h
 on_err_also (Err e) P Q also h = also h
 
--- what writing a text came to
+-- after a call that writes a text, the whole text is written, or the writer failed after a prefix of it
 pub write_result : {T F : Type 0} (r : Result T F) (old new : StreamState) (text shown : List ℕ) → text ≡ shown
     → OnOk r (Appends old.bytes new.bytes text) → WritesFront old.bytes new.bytes text
     → OnErr r (HasFailed old.failures new.failures) → WritesOrFails old new shown

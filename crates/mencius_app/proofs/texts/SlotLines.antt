@@ -1,4 +1,4 @@
--- The lines of a server's instances, one after the other.
+-- The lines for the instances of a server are added one after the other.
 use Rattle.std.proofs.Common.{◌≡◌, ℕ, ◌+◌, List, ◌++◌, append-nil, sym}
 use Rattle.mencius_base.specs.Members.{Membership}
 use Rattle.mencius_model.specs.Trace.{Trace}

@@ -1,4 +1,4 @@
--- A text to which the first of a list of events were told.
+-- A text gets the trace of a list of events by adding the lines of one event after the other.
 use Rattle.std.proofs.Common.{◌≡◌, ℕ, ◌+◌, List, [], ◌∷◌, ◌++◌, append_assoc, length, refl, sym, ap, ◌∙◌, arith}
 use Rattle.std.specs.Result.{result_unwrap_or}
 use Rattle.mencius_base.specs.declared.event.Event.{Event}
@@ -7,7 +7,8 @@ use Rattle.mencius_cluster.specs.State.{ClusterState, trace_of}
 use Rattle.mencius_trace.specs.Closing.{closing_text, events_text}
 use Rattle.mencius_trace.specs.Effects.{event_lines}
 
--- what is left to tell, behind what was told, is what there was to tell
+-- the text so far, followed by the lines of the events that are left, is the old text followed by the lines of all
+-- events
 pub record IsTraced (old : ClusterState) (before : List ℕ) (es left : List Event) (new : ClusterState) (text : List ℕ)
     (place : ℕ) : Type 0 where
   pub members : new.members ≡ old.members
@@ -23,7 +24,7 @@ text_of_none old before es left same = record {
   place_is = omega (arith, ap length same);
 }
 
--- one event more
+-- `IsTraced` still holds after another event
 pub text_of_one_more : (old mid new : ClusterState) (before text more : List ℕ) (es left rest : List Event) (e : Event)
     (place : ℕ) → IsTraced old before es left mid text place → left ≡ e ∷ rest
     → more ≡ text ++ event_lines mid.members (trace_of mid) place e
@@ -43,7 +44,7 @@ text_of_one_more old mid new before text more es left rest e place is next_is go
       place_is = let count : length left ≡ length (e ∷ rest) = ap length next_is in omega (arith, is.place_is, count);
     }
 
--- none is left, and what comes after the last was told too
+-- if no event is left and the closing lines are added, the text has the whole trace
 pub text_of_all : (old new : ClusterState) (before text more : List ℕ) (es left : List Event) (place : ℕ)
     → IsTraced old before es left new text place → left ≡ [] → more ≡ text ++ closing_text new.members (trace_of new)
     → more ≡ before ++ events_text old.members (trace_of old) 0 es

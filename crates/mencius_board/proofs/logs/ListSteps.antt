@@ -1,8 +1,8 @@
--- One step along a list, and one element more.
+-- A property of all elements of a list carries over to the rest of the list, and to the list with another element.
 use Rattle.std.proofs.Common.{◌≡◌, ℕ, zero, suc, ◌+◌, ◌<◌, List, [], ◌∷◌, ◌++◌, length, get_or, refl, subst, arith}
 use Rattle.std.proofs.Common.{add-one}
 
--- what holds of each element by its place holds of the first, and of the rest by places one on
+-- a property of each element and its place holds for the first element, and for the others with their places
 pub first_of : {A : Type 0} (P : ℕ → A → Type 0) (n m : ℕ) (xs rest : List A) (x : A) → xs ≡ x ∷ rest → m + 1 ≡ n
     → ((place : ℕ) (d : A) → place < n → P place (get_or xs place d))
     → P 0 x × ((place : ℕ) (d : A) → place < m → P (place + 1) (get_or rest place d))
@@ -15,7 +15,7 @@ first_of {A = A} P n m xs rest x e len all = (
       subst (λ (y : A). P (place + 1) y) same h,
 )
 
--- what holds of each element by its place, and of one more at the end
+-- a property of each element and its place also holds for the longer list, if it holds for the new last element
 pub more_of : {A : Type 0} (P : ℕ → A → Type 0) (n : ℕ) (xs : List A) (x d : A)
     → ((n : ℕ) (d : A) → n < length xs → P n (get_or xs n d)) → P (length xs) x → n < length xs + 1
     → P n (get_or (xs ++ x ∷ []) n d)

@@ -1,4 +1,4 @@
--- A step that only adds to the log keeps the rule of what is shown.
+-- A step that only adds to the log maintains the rule of the value that readers enter.
 use Rattle.std.proofs.Common.{◌≡◌, ℕ, ◌≢◌, List, [], ◌∷◌, ◌++◌, Option, Some, None, set, refl, sym, ap, ◌∙◌, subst}
 use Rattle.std.proofs.Common.{⊎_elim, ◌<◌, ◌^◌, length}
 use mathlib.Core.Option.{some}
@@ -36,7 +36,7 @@ turns seat z x y book grows own views h at = (
   (own, refl, follows_on z x.mark y.mark (h.1 seat z at) book grows),
 )
 
--- a look at what is shown
+-- a look at the shown value maintains the rule
 pub looks : (seat : ℕ) (a : Option MarkState) (x : VersionState) → TurnsAt Keeps seat a x x Shows
 looks seat a x views h at = turns seat a x x refl (prefix_self x.mark.log) h.0 views h at
 
@@ -71,7 +71,7 @@ merges seat z other d x views h at apart there =
     (at_set views seat other d d there) in
     set_follows other x None (set views seat d) (set_follows seat x d views h follows) tt
 
--- a mark of all that is then shown keeps the rule
+-- publishing the pending commands with a mark of the whole list maintains the rule
 pub stamped_turns : (seat : ℕ) (a : Option MarkState) (x now next : VersionState) (old all : List Operation)
     (h mark : MarkState) → length h.log < 2 ^ 32 → x ≡ now → all ≡ old ++ Stamp mark ∷ [] → mark ≡ h
     → IsMarked h.book now → now.list ++ added_commands old ≡ h.log → next ≡ version_after_all x all

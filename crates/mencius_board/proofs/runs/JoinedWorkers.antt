@@ -1,4 +1,4 @@
--- What a worker's thread answered, once it is joined, and what all of them then come to.
+-- The result of joining a worker's thread is an end of that worker.
 use Rattle.std.specs.Prelude.{MatchOption}
 use Rattle.std.proofs.Common.{◌≡◌, ℕ, Option, Some, None, Err, subst, inl, inr}
 use Rattle.mencius_board.specs.declared.fault.BoardFault.TheVariants.{NoWorker}

@@ -1,4 +1,4 @@
--- A run before its first turn, after one turn more, and at its end.
+-- The invariant of a run holds before the first turn and after each turn, and gives the result at the end.
 use Rattle.std.specs.Prelude.{slice_get, IfErr, OnOk, if◌then◌else◌}
 use Rattle.std.specs.Result.{is_ok}
 use Rattle.std.proofs.Common.{◌≡◌, ◌≢◌, ℕ, zero, suc, ◌+◌, ◌<◌, ◌≤◌, ◌==◌, Bool, true, false, List, [], ◌∷◌, ◌++◌, Some, None, Result, Ok, Err, length, map, replicate, set, get_or, refl, sym, ◌∙◌, ap, subst, arith, ⊎_elim, inl, inr}
@@ -28,7 +28,7 @@ no_turns n i =
     get_or_past (replicate n none_taken) i none_taken (omega (arith, past, length-replicate n none_taken)))
     (cases_lt i n)
 
--- a run before its first turn
+-- the invariant holds for a run before its first turn
 pub begun : (plan : PlanState) (board : BoardState) (choosers : List ChooserState) (ways : List Way) (turns : ℕ)
     → turns ≡ plan.turns → choosers ≡ map (first_chooser plan) (numbers_below plan.workers)
     → ways ≡ replicate plan.workers (Ok 0)
@@ -62,7 +62,7 @@ noted_there ways seat worker way answer order false same other noted =
 noted_there ways seat worker way answer order true same other noted =
     absurd (grind (arith, nat_tests, same, other))
 
--- one turn more is noted of its worker alone
+-- another turn changes only the way of the worker that took it
 noted_more : (ways : List Way) (seat worker : ℕ) (way : Way) (answer : Result (Unit {0}) BoardFault)
     (order : List TurnOf) → seat < length ways → way ≡ way_after answer (way_of seat order)
     → get_or ways worker (Ok 0) ≡ way_of worker order
@@ -87,7 +87,7 @@ fault_more ways seat worker turns way within is was =
     subst (λ w. IfErr w (IsRunFault turns)) (sym (get_or-set_other ways seat worker way (Ok 0) other)) was)
     (cases_eq worker seat)
 
--- what lies under the lock after one turn more
+-- the invariant holds after a turn, or after a thread could not be started
 goes_on : (plan : PlanState) (first old new : BoardState) (choosers choosers' : List ChooserState)
     (ways : List Way) (turns seat taken : ℕ) (answer : Result (Unit {0}) BoardFault) (way : Way)
     → IsRun plan first old choosers ways turns → seat < plan.workers → get_or ways seat (Ok 0) ≡ Ok taken
@@ -109,14 +109,14 @@ goes_on plan first old new choosers choosers' ways turns seat taken answer way r
       faults = λ worker. fault_more ways seat worker turns way within fault (run.faults worker);
     }
 
--- what is read of how far a worker came
+-- a way that was read from the list is the same with another default
 read_way : (plan : PlanState) (first board : BoardState) (choosers : List ChooserState) (ways : List Way)
     (turns seat : ℕ) (read : Way) → IsRun plan first board choosers ways turns → seat < plan.workers
     → read ≡ get_or ways seat read → get_or ways seat (Ok 0) ≡ read
 read_way plan first board choosers ways turns seat read run seated is =
     get_or_default ways seat (Ok 0) read (omega (arith, run.counts, seated)) ∙ sym is
 
--- after the next turn of a worker, whatever it answered
+-- the invariant holds after the next turn of a worker, with any result
 pub turned : (plan : PlanState) (first board after : BoardState) (choosers : List ChooserState)
     (chooser next : ChooserState) (ways : List Way) (turns seat taken : ℕ) (read way : Way) (shows : Bool)
     (answer : Result (Unit {0}) BoardFault)
@@ -139,7 +139,7 @@ turned plan first board after choosers chooser next ways turns seat taken read w
     }))
     (length-set choosers seat next) then_is fault
 
--- after a thread that could not be started
+-- the invariant holds after the thread of a worker could not be started
 pub refused : (plan : PlanState) (first board : BoardState) (choosers : List ChooserState) (ways : List Way)
     (turns seat : ℕ) (read : Way) (ok : Bool)
     → IsRun plan first board choosers ways turns → seat < plan.workers → read ≡ get_or ways seat read
@@ -150,7 +150,7 @@ refused plan first board choosers ways turns seat (Ok taken) ok run seated at is
     (inr (inl refl))
 refused plan first board choosers ways turns seat (Err f) ok run seated at is well = absurd (cc)
 
--- a fault of a turn is one of a run
+-- a fault that a turn can have is a fault that a run can have
 pub turn_is_run : (seat n turns : ℕ) (shows : Bool) (f : BoardFault) → shows ≡ is_to_show seat n → n < turns
     → IsTurnFault shows f → IsRunFault turns f
 turn_is_run seat n turns shows f is below (inl memory) = inl memory
@@ -158,7 +158,7 @@ turn_is_run seat n turns shows f is below (inr refused) =
     let test : is_to_show seat n ≡ true = sym is ∙ refused.1 in
     inr (inr (refused.0, grind (arith, nat_tests, test, below)))
 
--- ---- how each worker ended
+-- ---- the end of each worker
 
 took : (turns taken : ℕ) (ways : List Way) (b : Bool) (end : Result (Unit {0}) BoardFault) → (taken == turns) ≡ b
     → (if b then first_end turns ways else None) ≡ Some end
@@ -174,7 +174,7 @@ all_took turns (Ok taken ∷ ways) zero x e within = ap Ok (took turns taken way
 all_took turns (Ok taken ∷ ways) (suc worker) x e within =
     all_took turns ways worker x (took turns taken ways (taken == turns) (Ok x) refl e).1 (omega (arith, within))
 
--- the first of these workers that did not take all turns
+-- this worker is the first that did not take all turns, and it has this fault
 abbrev IsFirst : ℕ → List Way → BoardFault → ℕ → Type 0
 IsFirst turns ways f worker =
     (worker < length ways) × (get_or ways worker (Ok 0) ≡ Err f)
@@ -197,7 +197,7 @@ first_failed turns (Ok taken ∷ ways) f e =
       (omega (arith, next.1.0), next.1.1, before_next turns taken next.0 ways rest.0 next.1.2),
     )
 
--- all turns of all workers were taken, or the least worker that took fewer has a fault
+-- at the end of a run, either all workers have taken all turns, or the lowest worker that did not has a fault
 pub ended : (plan : PlanState) (first board : BoardState) (choosers : List ChooserState) (ways : List Way) (turns : ℕ)
     (answer : Result (Unit {0}) BoardFault) → IsRun plan first board choosers ways turns
     → first_end turns ways ≡ Some answer

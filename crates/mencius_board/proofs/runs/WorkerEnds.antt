@@ -1,4 +1,4 @@
--- What workers that ended come to: choosers that took all turns, or a fault that a run may have.
+-- The ends of all workers give choosers that have taken all turns, or a fault that a run can have.
 use Rattle.std.specs.Prelude.{MatchResult, IfOk, IfErr}
 use Rattle.std.proofs.Common.{◌≡◌, ℕ, suc, ◌+◌, ◌<◌, List, [], ◌∷◌, ◌++◌, Result, Ok, Err, length, get_or}
 use Rattle.std.proofs.Common.{length-append, refl, sym, ◌∙◌, subst, inl, inr, arith, add-zero, zero-add}
@@ -9,7 +9,7 @@ use Rattle.mencius_base.specs.Plan.{PlanState}
 use Rattle.mencius_board.specs.Running.{EndState, HaveEnded, HaveFailed, HaveTurned, IsWorkerEnd, TakesTurns, choosers_behind, choosers_or_fault}
 use Rattle.mencius_board.proofs.logs.ListSteps.{more_of}
 
--- each end, by its place behind n that came before
+-- each of these ends belongs to the worker whose number is n plus the place of the end in the list
 abbrev EndFrom : PlanState → ℕ → List EndState → Type 0
 EndFrom plan n ends = (m : ℕ) (d : EndState) → m < length ends → IsWorkerEnd plan (n + m) (get_or ends m d)
 
@@ -71,7 +71,7 @@ ends_from : (plan : PlanState) (n : ℕ) (ends : List EndState) → length ends 
 ends_from plan n ends len h m d below =
     subst (λ (o : ℕ). IsWorkerEnd plan o (get_or ends m d)) (sym (zero-add m)) (h m d (omega (arith, len, below)))
 
--- what a run answers
+-- the result of a run is the choosers after all turns, or a fault that a run can have
 pub come_to : {V : Type 0} (plan : PlanState) (ends : List EndState) (items : V → List ChooserState) (many : V → ℕ)
     (r : Result V BoardFault) → ((x : V) → many x ≡ length (items x)) → length ends ≡ plan.workers
     → HaveEnded ends plan plan.workers

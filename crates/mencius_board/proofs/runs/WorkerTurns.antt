@@ -1,4 +1,4 @@
--- What follows from a worker's turn.
+-- A worker's turn keeps the plan, can only have the faults of a turn, and adds one turn to those taken before.
 use Rattle.std.specs.Prelude.{IfErr}
 use Rattle.std.proofs.Common.{◌≡◌, ℕ, ◌+◌, Bool, true, false, Result, Ok, Err, refl, ap, sym, subst, inl, inr, add-one}
 use Rattle.mencius_board.specs.declared.fault.BoardFault.{BoardFault}
@@ -29,7 +29,7 @@ after_fault false before after (Ok _) (Err g) h was = absurd (cc)
 after_fault false before after (Err f) (Ok _) h was = tt
 after_fault false before after (Err f) (Err g) h was = let same : f ≡ g = cc in subst (IsTurnFault false) same was
 
--- its fault is one that a turn may have
+-- if a turn has a fault, it is one of the faults that a turn can have
 pub turn_fault : (old new : ChooserState) (before after : BoardState) (shows : Bool)
     (answer : Result (Unit {0}) BoardFault)
     → TakesTurn old new before after shows answer → IfErr answer (IsTurnFault shows)
@@ -41,13 +41,13 @@ refused_plan : (old new : ChooserState) (board : BoardState) → HasNoMemory old
 refused_plan old new board (inl put_off) = ap (λ (y : ChooserState). y.plan) put_off.same
 refused_plan old new board (inr chosen) = chosen.1.plan
 
--- the plan stays
+-- a turn does not change the plan of the chooser
 pub turn_plan : (old new : ChooserState) (before after : BoardState) (answer : Result (Unit {0}) BoardFault)
     → EndsTurn old new before after answer → new.plan ≡ old.plan
 turn_plan old new before after (Ok _) h = h.chosen.plan
 turn_plan old new before after (Err f) h = refused_plan old new before h.2
 
--- one turn more of a worker
+-- after n turns and another turn that ends well, a worker has taken n + 1 turns
 pub one_more : (worker n : ℕ) (first chooser last : ChooserState) (before after : BoardState) (shows : Bool)
     (answer : Result (Unit {0}) BoardFault)
     → TakesTurns worker n first chooser → TakesTurn chooser last before after shows answer

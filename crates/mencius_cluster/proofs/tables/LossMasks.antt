@@ -1,4 +1,4 @@
--- Marks, over a plain list of masks.
+-- Setting a mark in a list of masks adds this mark and changes no other mark.
 use Rattle.std.proofs.Common.{◌≡◌, ℕ, ◌<◌, ◌&&◌, ◌||◌, arith, List, length, set, get_or, eqb, sym, ap, ◌∙◌, inl, inr}
 use Rattle.std.specs.Prelude.{◌==◌, ◌*◌, ◌^◌, ◌%◌, bit_or}
 use Rattle.std.specs.Int.{bit_at, w8}
@@ -7,7 +7,7 @@ use Rattle.std.proofs.lemmas.List.{get_or-set_other, get_or-set_same}
 use Rattle.std.proofs.lemmas.Nat.Bits.{bit_at_set_other, bit_at_set_same}
 use Rattle.mencius_base.specs.Limits.{most_servers}
 
--- one bit more
+-- setting bit p of a byte sets this bit and changes no other bit
 more_bits : (x p q : ℕ) → p < 8
     → (bit_at (bit_or x (1 * 2 ^ p % 256)) q == 1) ≡ (eqb p q || (bit_at x q == 1))
 more_bits x p q few =
@@ -16,7 +16,8 @@ more_bits x p q few =
       | inr e ↦ rw e.0 (ap (λ n. n == 1) (bit_at_set_other w8 x p few q (λ h. e.1 (sym h))))
     ]
 
--- a mark more in the masks, at message k and server p; a mask has a bit for each server that there may be
+-- setting bit p of mask k adds a mark at message k and server p, and changes no other mark. A mask has enough bits for
+-- `most_servers` servers
 pub marked : (xs : List ℕ) (k p x : ℕ) → k < length xs → p < most_servers → x ≡ get_or xs k 0 → (n q : ℕ)
     → (bit_at (get_or (set xs k (bit_or x (1 * 2 ^ p % 256))) n 0) q == 1)
     ≡ ((k == n && p == q) || (bit_at (get_or xs n 0) q == 1))

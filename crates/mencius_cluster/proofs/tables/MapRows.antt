@@ -1,4 +1,4 @@
--- The rows of the submitted commands, by the entries of a map.
+-- Lookups and writes in the map of submitted commands agree with those in the list of rows.
 use Rattle.std.proofs.Common.{◌≡◌, ℕ, zero, suc, List, [], ◌∷◌, Option, Some, None, Result, Ok, Err, cond, map, option_map, slice_get, refl, sym, ap, ◌∙◌}
 use Rattle.std.proofs.lemmas.Option.{slice_get-map}
 use Rattle.std.specs.Map.{lookup}
@@ -26,7 +26,7 @@ pub row_by_ticket : (es : List (Identity × Submission)) (t : ℕ)
 row_by_ticket es t =
     submission_of_row (slice_get es t) ∙ ap (option_map (λ (row : Row). row.1)) (sym (slice_get-map row_of es t))
 
--- another submission in the row of a ticket
+-- storing another submission at a ticket has the same effect on the map and on the rows
 pub rows_after : (es : List (Identity × Submission)) (t : ℕ) (x : Submission)
     → map row_of (set_value_at es t x) ≡ set_value_at (map row_of es) t x
 rows_after [] t x = refl

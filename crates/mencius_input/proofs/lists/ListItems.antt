@@ -1,4 +1,4 @@
--- What the items of a list come to, one by one, is what is judged of the list.
+-- Reading a list one item at a time gives the result of the whole list.
 use Rattle.std.proofs.Common.{◌≡◌, List, [], ◌∷◌, ◌++◌, ◌&&◌, Bool, max, Option, Some, None, option_and_then, Result, Ok, Err, option_map, map, refl, sym, ap, ◌∙◌, ℕ, ◌<◌, length, ap₂, true, false, cond, ◌+◌, arith, nat_le, nat_lt, add-one}
 use Rattle.std.specs.List.{list_all}
 use Rattle.std.specs.Option.{option_zip}
@@ -21,7 +21,7 @@ use Rattle.mencius_input.specs.Scenario.{all_of}
 use Rattle.mencius_format.proofs.ValuesOfParts.{both_values, map_ok_value, value_is_ok}
 use Rattle.mencius_json.proofs.NextValues.{ItemsSoFar, items_close, items_further, items_start, items_stop, items_then}
 
--- a fault more
+-- recording a fault has the same result as adding an item with this fault
 pub noted_fault : {X : Type 0} (xs : List X) (fault : Option IoFault) (found : IoFault)
     → items_or_fault xs (Some (graver_fault fault found)) ≡ with_one (items_or_fault xs fault) (Err found)
 noted_fault xs None found = refl
@@ -64,7 +64,7 @@ module _ {X : Type 0} (read : Data → Option X) (within : X → Bool) where
   one_within x =
       rw (list_all-append within x.0 (x.1 ∷ [])) (ap (λ bit. list_all within x.0 && bit) (and-true (within x.1)))
 
-  -- one item more
+  -- the result of some items and another item follows from the result of these items and the result of this item
   one_noted : (ds : List Data) (d : Data)
       → value_or_fault (list_all within) (all_of read (items_then (ds ++ d ∷ []) no_items))
       ≡ with_one (value_or_fault (list_all within) (all_of read (items_then ds no_items)))
@@ -76,10 +76,10 @@ module _ {X : Type 0} (read : Data → Option X) (within : X → Bool) where
       (option_zip all (read d)))
       ∙ ap (map_ok (λ x. x.0 ++ x.1 ∷ [])) (sym (both_values (list_all within) within all (read d)))
 
--- ---- what is noted of the items that were read
+-- ---- the result of the items that were read
 
--- of a list's items these were read, this is noted of them, and the greatest version that one needs; those of `left` are
--- still to come
+-- the items `found` were read from a list. Their result is `so_far`, and `version` is the greatest version that any of
+-- them needs. The tokens `left` begin with the remaining items
 pub record ListSoFar {X : Type 0} (read : Data → Option X) (all_within : List X → Bool) (needed : Data → ℕ) (depth : ℕ)
     (whole left : List Token) (so_far : Result (List X) IoFault) (version : ℕ) : Type 0 where
   pub found : List Data
@@ -115,7 +115,7 @@ module _ {X : Type 0} {read : Data → Option X} {all_within : List X → Bool} 
   pub list_stop : next_value depth left ≡ None → next_items depth whole ≡ None
   list_stop none = items_stop depth whole left h.found h.items going none
 
-  -- one item more, by what is noted of it
+  -- another item is read, and its result is added to the result of the items
   pub list_more : (rest : List Token) (d : Data) (next : Result (List X) IoFault) (now : ℕ)
       → length rest < length left → next_value depth left ≡ Some (d, rest) → now ≡ max version (needed d)
       → ((ds : List Data) → value_or_fault all_within (all_of read (items_then ds no_items)) ≡ so_far
@@ -128,7 +128,7 @@ module _ {X : Type 0} {read : Data → Option X} {all_within : List X → Bool} 
     least = one_needed needed h.found d ∙ ap (λ n. max n (needed d)) h.least ∙ sym greater;
   }
 
--- where each item has limits of its own
+-- another item is read from a list whose items each have their own limits
 pub list_further : {X : Type 0} {read : Data → Option X} (within : X → Bool) {needed : Data → ℕ} {depth : ℕ}
     {whole left : List Token} {so_far : Result (List X) IoFault} {version : ℕ}
     → ListSoFar read (list_all within) needed depth whole left so_far version → after_end_array left ≡ None
@@ -140,7 +140,7 @@ list_further {read} within h going rest d one next now less is greater judgement
     list_more h going rest d next now less is greater
     (λ ds e. one_noted read within ds d ∙ ap₂ with_one e judgement ∙ sym noted)
 
--- where no more than so many are kept
+-- lists that keep at most `most` items
 module _ {X : Type 0} (within : X → Bool) (most : ℕ) where
   abbrev few_within : List X → Bool
   few_within xs = list_all within xs && nat_le (length xs) most
@@ -186,7 +186,7 @@ module _ {X : Type 0} (within : X → Bool) (most : ℕ) where
       by_tests true false e = refl
       by_tests false d e = refl
 
-  -- what is noted where nothing had a fault
+  -- if no item had a fault, the result with another item is the items with it, or its fault
   kept_more : (kept : List X) (one : Option X) → few_within kept ≡ true
       → value_or_fault few_within (with_last (Some kept) one)
       ≡ with_one (Ok kept) (kept_one (nat_lt (length kept) most) one)
@@ -195,7 +195,7 @@ module _ {X : Type 0} (within : X → Bool) (most : ℕ) where
       ap (λ a. cond a (Ok (kept ++ x ∷ [])) (Err BadLimit)) (fits_more kept x e)
       ∙ room_and_limit kept x (nat_lt (length kept) most) (within x)
 
-  -- and where something was past a limit
+  -- if the items are past a limit, the result with another item is `BadLimit` or the fault of that item
   past_more : (xs : List X) (has_room : Bool) (one : Option X) → few_within xs ≡ false
       → value_or_fault few_within (with_last (Some xs) one) ≡ with_one (Err BadLimit) (kept_one has_room one)
   past_more xs a None e = ap (with_one (Err BadLimit)) (sym (no_shape_kept a))
@@ -253,7 +253,7 @@ list_close {depth} {whole} {left} h rest closed = (
   sym h.least,
 )
 
--- ---- what is kept, seen in another way
+-- ---- the result with each item mapped
 
 pub map_ok_twice : {X Y Z : Type 0} (f : X → Y) (g : Y → Z) (result : Result X IoFault)
     → map_ok (λ x. g (f x)) result ≡ map_ok g (map_ok f result)

@@ -1,4 +1,5 @@
--- What a version makes of texts, items and lists: what the newest does, where they may stand in it.
+-- A version that allows a text, an item or a list reads it as the newest version does, and any other version refuses
+-- it.
 use Rattle.std.proofs.Common.{◌≡◌, ℕ, ◌&&◌, List, [], ◌∷◌, Bool, true, false, cond, Option, Some, None, option_and_then, option_map, Result, Err, refl, sym, ap, ap₂, ◌∙◌}
 use Rattle.std.specs.Prelude.{unwrap_or}
 use Rattle.serde_json.specs.Data.{Data, Items, no_items, item}
@@ -22,7 +23,7 @@ use Rattle.mencius_input.specs.Scenario.{all_in, all_of, item_said, said_by}
 -- ---- texts, items and lists
 
 module _ (version : ℕ) where
-  -- what needs so late a version
+  -- `o` if the version allows content that needs the version `needed`, and no result otherwise
   abbrev where_had : {X : Type 0} → ℕ → Option X → Option X
   where_had needed o = where_stands (may_stand_in needed version) o
 
@@ -70,7 +71,7 @@ module _ (version : ℕ) where
       → said_by (event_of version) d ≡ where_had (event_item_version d) (said_by (event_of newest_version) d)
   event_said d = text_in (event_of version) (event_of newest_version) event_version (event_in version) (as_str d)
 
-  -- ---- what was judged before the version was known
+  -- ---- content that was judged before its version was known
 
   read_in_version : {X : Type 0} (within : X → Bool) (needed : ℕ) (read newest : Option X) → read ≡ where_had needed newest
       → in_version version (record { said = value_or_fault within newest; version = needed })
@@ -84,7 +85,7 @@ module _ (version : ℕ) where
       by_test true = refl
       by_test false = refl
 
-  -- so a list that was read before its version is what that version makes of it
+  -- events that were read in the newest version have the result that this version gives them
   pub events_said_in : (within : List Event → Bool) (d : Data)
       → in_version version (record {
         said = value_or_fault within (all_in (said_by (event_of newest_version)) d);

@@ -1,4 +1,5 @@
--- Each fault of the shape or of the limits has a place: what has no place with the fault has not the fault.
+-- Each `BadShape` or `BadLimit` of a scenario has a place, because a scenario without a place for a fault does not have
+-- it.
 use Rattle.std.proofs.Common.{◌≡◌, ◌∙◌, ◌<◌, ◌==◌, arith, ℕ, List, length, get_or, codes, Bool, true, false, cond, is_some, option_map, option_and_then, Option, Some, None, Ok, Err, refl, sym, ap}
 use Rattle.std.specs.Prelude.{unwrap_or}
 use Rattle.std.specs.List.{list_all}
@@ -51,7 +52,7 @@ planned_there version (Some workers) (Some seed) (Some turns) (Some loss) value 
     ap is_some (sym (mapped_items 0 workers seed turns loss version (option_and_then as_array value)))
     ∙ some_mapped (plan_of workers seed turns loss) _ lists
 
--- of what each part of a plan was read
+-- each part of the plan is the content of its field
 record IsPlanned (version : ℕ) (ow os ot ol : Option ℕ) (value : Option Data) (plan : PlanState) : Type 0 where
   workers : ow ≡ Some plan.workers
   seed : os ≡ Some plan.seed
@@ -116,7 +117,7 @@ module _ (ms : Members) (h : HasNone Run BadShape ms) (version : ℕ) (said : fi
 module _ (ms : Members) (h : HasNone Run BadLimit ms) (version servers : ℕ)
     (said : field_number Version (object ms) ≡ Some version) (counted : field_number Servers (object ms) ≡ Some servers)
     (few : is_field_within Servers servers ≡ true) where
-  -- the lists are within their limits, and as many as there are servers
+  -- if the lists have no place for `BadLimit`, they are within their limits, and each server has one list
   run_lists_fit : (o : Option Items) (lists : List (List CommandState)) → course_place Run BadLimit (object ms) o ≡ None
       → option_and_then (all_of (commands_read version)) o ≡ Some lists
       → ((length lists == servers) ≡ true) × (list_all (list_all is_command_within) lists ≡ true)
@@ -176,7 +177,7 @@ module _ {X : Type 0} where
       by_course None e = absurd cc
       by_course (Some c) e = refl
 
-  -- of what each part of a scenario was read
+  -- each part of the scenario is the content of its field
   record IsBound (ov os ox : Option ℕ) (course_of : ℕ → Option X) (x : Scenario X) : Type 0 where
     version : ov ≡ Some x.version
     servers : os ≡ Some x.members.count
@@ -261,7 +262,7 @@ only_known kind bytes ms is none =
     only_passed kind BadShape (object ms) (names kind) (known_name kind (object ms)) n.fields no_members ms
     (no_first kind BadShape bytes ms is none) n.good refl
 
--- of what the parts of a scenario were read that an object says
+-- each part of the scenario is the content of its field in the object
 abbrev IsOf : {X : Type 0} → (ℕ → Data → Option X) → Members → Scenario X → Type 0
 IsOf course_of ms x =
     IsBound (field_number Version (object ms)) (field_number Servers (object ms)) (field_number Beta (object ms))

@@ -1,4 +1,4 @@
--- What is read of fields that have no place.
+-- Fields without a place for `BadShape` can be read, and fields without a place for `BadLimit` are within their limits.
 use Rattle.std.proofs.Common.{◌≡◌, ◌∙◌, ◌<◌, ◌+◌, ◌==◌, ◌&&◌, arith, ℕ, suc, List, ◌∷◌, length, get_or, codes, Bool, true, false, not, cond, is_some, option_and_then, Option, Some, None, Ok, Err, refl, sym, ap}
 use Rattle.std.specs.Prelude.{unwrap_or}
 use Rattle.std.specs.List.{find, list_all}
@@ -25,9 +25,9 @@ use Rattle.mencius_input.proofs.objects.ScenarioFields.{schedule_bound}
 use Rattle.mencius_input.proofs.objects.SharedFields.{default_fits}
 use Rattle.mencius_input.proofs.mistakes.PlacedNames.{none_both, none_found, none_mapped, not_given}
 
--- ---- the fields of an object in which there is no place
+-- ---- an object without a place for the fault
 
--- no value at a key has one, and no field lacks
+-- neither a field of the object nor a missing field is a place of the fault
 pub record HasNone (kind : Kind) (fault : IoFault) (ms : Members) : Type 0 where
   pub passed : (key : List ℕ) → is_some (get_member key ms) ≡ true → field_place kind fault (object ms) key ≡ None
   pub whole : lack_place kind fault (object ms) ≡ None
@@ -60,7 +60,7 @@ module _ (kind : Kind) (fault : IoFault) (ms : Members) (h : HasNone kind fault 
 -- ---- numbers
 
 module _ (kind : Kind) (ms : Members) (h : HasNone kind BadShape ms) where
-  -- a field that must be there is
+  -- no field that must be present is missing
   pub none_lacking : (i : ℕ) → i < length (fields kind) → is_lacking (object ms) (get_or (fields kind) i Version) ≡ false
   none_lacking i less =
       none_found (is_lacking (object ms)) (fields kind) Version
@@ -165,7 +165,7 @@ module _ {X Y : Type 0} (read : Data → Option X) (ask : ℕ → Data → Optio
       let split = both_parts (read d) (all_of read ds) xs is in
       ap length split.4 ∙ ap suc (same_count ds split.1 split.3)
 
--- an item without the fault
+-- an item without a `BadShape` can be read, and an item without a `BadLimit` is within its limits
 module _ {X P : Type 0} (fits : X → Bool) (place : P) where
   item_there : (o : Option X) → cond (is_fault BadShape (result_err (value_or_fault fits o))) (Some place) None ≡ None
       → is_some o ≡ true
@@ -272,7 +272,7 @@ lists_fit version items lists none is =
     all_fit (commands_read version) (list_place BadLimit version) (list_all is_command_within)
     (λ at d xs none is. list_fits version at (as_array d) xs none is) 0 items lists none is
 
--- a list for each of the servers, where their number is within its limits
+-- if the commands are not a place of `BadLimit`, they are one list for each server
 pub counts_agree : (count servers : ℕ) (o : Option ℕ) → o ≡ Some servers → is_field_within Servers servers ≡ true
     → count_place BadLimit count o ≡ None → (count == servers) ≡ true
 counts_agree count servers None is fits none = absurd cc

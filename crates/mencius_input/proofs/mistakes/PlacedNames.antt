@@ -1,4 +1,4 @@
--- What has no place among the fields of a text, by their names.
+-- If no field of a text has a place for a fault, no field of its object has one.
 use Rattle.std.proofs.Common.{◌≡◌, ◌∙◌, ◌<◌, arith, ℕ, zero, suc, List, [], ◌∷◌, length, get_or, Bool, true, false, cond, is_some, option_map, option_and_then, Option, Some, None, refl, sym, ap}
 use Rattle.std.specs.Prelude.{unwrap_or}
 use Rattle.std.specs.List.{find, list_any}
@@ -18,7 +18,7 @@ use Rattle.mencius_input.specs.Places.{field_place, first_in, list_field_place, 
 use Rattle.mencius_input.specs.Scenario.{has_only}
 use Rattle.mencius_input.proofs.objects.NamedFields.{has_only_put, is_named, one_of_names, other_name, same_name}
 
--- ---- what gives nothing
+-- ---- searches without a result
 
 module _ {X : Type 0} where
   pub none_both : (a b : Option X) → option_or a b ≡ None → (a ≡ None) × (b ≡ None)
@@ -55,10 +55,10 @@ module _ {X : Type 0} where
   some_unless None h = absurd (h refl)
   some_unless (Some x) h = refl
 
--- ---- the names of a text are those of its object
+-- ---- the names in a text and the names of its object
 
 module _ (kind : Kind) (fault : IoFault) (d : Data) where
-  -- where no field of the text has a place, that of a key has none
+  -- if no field of the text has a place, the field with this key in the object has none
   pub key_passed : (key : List ℕ) (ms : json.Members) (found all : Members) → first_in kind fault d (names_of ms) ≡ None
       → of_members ms found ≡ Some all
       → (is_some (get_member key found) ≡ true → field_place kind fault d key ≡ None)
@@ -85,7 +85,7 @@ module _ (kind : Kind) (fault : IoFault) (d : Data) where
       by_value none None good later = absurd cc
       by_value none (Some e) good later = later e good (by_name none e (bytes_eq key name) refl)
 
-  -- nor is there a key other than these names, where no field of another name goes without a place
+  -- if no field of the text has a place, all names of the object are among these names
   pub only_passed : (all_names : List (List ℕ))
       → ((name : List ℕ) → field_place kind fault d name ≡ None → is_one_of name all_names ≡ true)
       → (ms : json.Members) (found all : Members) → first_in kind fault d (names_of ms) ≡ None
@@ -106,7 +106,7 @@ module _ (kind : Kind) (fault : IoFault) (d : Data) where
       by_value one None good later = absurd cc
       by_value one (Some e) good later = later e good (has_only_put name e all_names found ∙ and_from _ _ one before)
 
--- a field that has no place has a name of the kind
+-- a field without a place for `BadShape` has a name of the kind
 pub known_name : (kind : Kind) (d : Data) (name : List ℕ) → field_place kind BadShape d name ≡ None
     → is_one_of name (names kind) ≡ true
 known_name kind d name none = by_test (is_one_of name (names kind)) refl

@@ -1,4 +1,4 @@
--- The names of an object's fields, as they are read one after the other.
+-- Reading an object one field at a time gives the names of its fields in the order of the text.
 use Rattle.std.proofs.Common.{◌≡◌, ◌∙◌, ℕ, zero, suc, List, [], ◌∷◌, length, Bool, true, false, Option, Some, None, option_map, refl, sym, ap, arith}
 use Rattle.std.specs.Prelude.{MatchOption, is_some, option_and_then}
 use Rattle.std.specs.Option.{option_or}
@@ -34,7 +34,7 @@ after_last p zero ts behind rest ms key is = absurd cc
 after_last p (suc n) ts behind rest ms key is =
     ap members_there (sym is ∙ ap (option_and_then (λ q. members_step p (members p n) q.0 q.1)) key)
 
--- a member was read: its value, and the members behind it
+-- a field was read. `one` is its value, and `others` are the fields after it
 record IsRead (p : Parse Json) (name : List ℕ) (behind rest : List Token) (ms : json.Members) : Type 0 where
   one : Json
   after : List Token
@@ -75,9 +75,9 @@ member_read p (suc n) name ts behind rest ms key is =
     by_value p name behind rest ms n (p behind) refl
     (sym (ap (option_and_then (λ q. members_step p (members p n) q.0 q.1)) key) ∙ is)
 
--- ---- the names that are left
+-- ---- the remaining names
 
--- the tokens that are left are those of fields of these names, each with its value
+-- the tokens `left` begin with fields that have these names, each with its value
 pub record AreAhead (names : List (List ℕ)) (left : List Token) : Type 0 where
   pub ms : json.Members
   pub turns : ℕ
@@ -88,7 +88,7 @@ pub record AreAhead (names : List (List ℕ)) (left : List Token) : Type 0 where
   pub good : of_members ms found ≡ Some all
   pub same : names ≡ names_of ms
 
--- after a name come others
+-- the names begin with `name`. The tokens after its value begin with fields that have the other names
 pub record AreBehind (names : List (List ℕ)) (name : List ℕ) (behind : List Token) : Type 0 where
   pub others : List (List ℕ)
   pub same : names ≡ name ∷ others
@@ -134,14 +134,14 @@ module _ (names : List (List ℕ)) (left : List Token) (h : AreAhead names left)
 
 -- ---- the names of a text
 
--- an object was read
+-- a parsed value is an object, and all its fields can be converted
 record IsObject (j : Json) : Type 0 where
   ms : json.Members
   all : Members
   good : of_members ms no_members ≡ Some all
   same : j ≡ json.object ms
 
--- it is an object
+-- whether a converted value is an object
 abbrev is_object : Option Data → Bool
 is_object None = false
 is_object (Some d) = is_some (as_object d)
@@ -202,7 +202,7 @@ module _ (ts : List Token) (ms : json.Members) (rest : List Token) where
   object_tokens Token.null is = absurd (not_open _ (ap object_of (value_is 127 (Token.null ∷ ts))) is)
   object_tokens Token.bad is = absurd (not_open _ (ap object_of (value_is 127 (Token.bad ∷ ts))) is)
 
--- the value of tokens, which is all of them
+-- the converted value of tokens, if no token comes after it
 abbrev whole_value : Option (Json × List Token) → Option Data
 whole_value o = option_and_then of_json (option_and_then (λ p. json.if_last p.0 p.1) o)
 
@@ -236,7 +236,7 @@ names_start text d whole left None same empty is object =
 names_start text d whole left (Some x) same begins is object =
     ahead (tokens text) left (token_of x) (value 127 (tokens text)) (sym same ∙ begins) refl (ap is_object is ∙ object)
 
--- the names of a text are those of fields of which its object was made
+-- the names in a text are the names of the fields that its object is built from
 pub record IsNamed (text : List ℕ) (all : Members) : Type 0 where
   pub fields : json.Members
   pub same : names_in text ≡ names_of fields
@@ -263,7 +263,7 @@ names_made text ms is = by_value (value 127 (tokens text)) refl is
               ∙ ap members_said (sym (ap of_json r.same) ∙ is);
         }
 
--- ---- the first of the fields that has a place
+-- ---- the first field with a place
 
 module _ (kind : Kind) (fault : IoFault) (d : Data) (names : List (List ℕ)) where
   pub first_named : (name : List ℕ) (others : List (List ℕ)) → names ≡ name ∷ others

@@ -1,4 +1,4 @@
--- The fields of an object, read one after the other, by their names.
+-- Reading an object one field at a time gives the contents of its fields.
 use Rattle.std.proofs.Common.{is_eq, Ordering, Less, Equal, Greater, Vec, Global, ◌≡◌, ◌<◌, ◌+◌, ℕ, zero, suc, ◌&&◌, ◌||◌, arith, List, [], ◌∷◌, length, map, get_or, set, nat_lt, Bool, true, false, not, cond, Option, Some, None, option_map, refl, sym, ap, ap₂, ◌∙◌, true≢false}
 use Rattle.std.specs.List.{list_any, position, position_or_len}
 use Rattle.std.specs.Ordering.{nat_cmp, match_ordering}
@@ -31,7 +31,7 @@ same_name key l e = let same = bytes_eq-Decides key l in same.0 e
 pub other_name : (key l : List ℕ) → bytes_eq key l ≡ false → key ≡ l → ⊥
 other_name key l e same = let decided = bytes_eq-Decides key l in true≢false (sym (decided.1 same) ∙ e)
 
--- the field has this name
+-- whether a field has this name
 abbrev pub is_named : List ℕ → Field → Bool
 is_named name field = bytes_eq name (field_name field)
 
@@ -39,19 +39,19 @@ one_of_fields : (name : List ℕ) (fs : List Field) → is_one_of name (map fiel
 one_of_fields name [] = refl
 one_of_fields name (f ∷ fs) = ap (λ bit. is_named name f || bit) (one_of_fields name fs)
 
--- a name of a kind is that of a number or of the list
+-- a name belongs to the kind exactly if it is the name of a whole number or of the list
 pub one_of_names : (kind : Kind) (name : List ℕ) → is_one_of name (names kind)
     ≡ (list_any (is_named name) (whole_fields kind) || (is_named name (list_field kind) || false))
 one_of_names kind name =
     one_of_fields name (fields kind)
     ∙ list_any-append (is_named name) (whole_fields kind) (list_field kind ∷ [])
 
--- no name of a number is that of the list
+-- the list has another name than each whole number
 list_apart : (kind : Kind) → list_any (is_named (field_name (list_field kind))) (whole_fields kind) ≡ false
 list_apart Replay = refl
 list_apart Run = refl
 
--- no name twice
+-- whether no two fields have the same name
 abbrev are_apart : List Field → Bool
 are_apart [] = true
 are_apart (f ∷ fs) = not (list_any (is_named (field_name f)) fs) && are_apart fs
@@ -76,14 +76,14 @@ none_named p xs e = found_one p xs ∙ by_test (nat_lt (position_or_len p xs) (l
     by_test true e = absurd (cc)
     by_test false e = refl
 
--- neither that of a number nor that of the list
+-- a name does not belong to the kind if it is the name of neither a whole number nor the list
 pub no_name : (kind : Kind) (name : List ℕ) → position (is_named name) (whole_fields kind) ≡ None
     → is_named name (list_field kind) ≡ false → is_one_of name (names kind) ≡ false
 no_name kind name none apart =
     one_of_names kind name
     ∙ ap₂ (λ a x. a || (x || false)) (none_named (is_named name) (whole_fields kind) none) apart
 
--- ---- what a field more leaves
+-- ---- the effect of another field
 
 module _ (name : List ℕ) (d : Data) where
   swapped : (a x z : Bool) → (a && (x && z)) ≡ (x && (a && z))
@@ -158,12 +158,13 @@ module _ (name : List ℕ) (d : Data) (ms : Members) where
       ap₂ (λ n ns. n ∷ ns) (sym (number_stays f (before 0 (omega arith))))
       (wholes_set fs i parts.1 (omega arith) here (λ k below. before (suc k) (omega arith)))
 
-  -- what is known of a field
+  -- reading a field with another name does not change the content known for this name
   pub still_says : {X : Type 0} (says : Data → X) (key : List ℕ) (known : Option X) → bytes_eq name key ≡ false
       → Says says key known ms → Says says key known (put name d ms)
   still_says says key known e h =
       h ∙ ap (option_map says) (sym (get_member-put_other key name d ms (λ same. other_name name key e (sym same))))
 
+  -- after reading a field with this name, its content is known for this name
   pub now_says : {X : Type 0} (says : Data → X) (key : List ℕ) (new : X) → bytes_eq name key ≡ true → new ≡ says d
       → Says says key (Some new) (put name d ms)
   now_says says key new e is =
@@ -188,7 +189,7 @@ no_fields kind wholes e = record {
 }
 
 module _ (kind : Kind) (f : code.FieldValues) (ms : Members) (name : List ℕ) (d : Data) (h : AreFieldValues kind f ms) where
-  -- a field more that a scenario of the kind has
+  -- reading a field of the kind does not change whether all fields belong to the kind
   known : (f.has_other ≡ not (has_only (names kind) ms)) → is_one_of name (names kind) ≡ true
       → f.has_other ≡ not (has_only (names kind) (put name d ms))
   known e one =

@@ -1,4 +1,4 @@
--- The fields of a scenario of `run`, and what they say.
+-- The code builds the scenario of a run that the definitions give for the fields.
 use Rattle.std.proofs.Common.{nat_le, ◌≡◌, ℕ, ◌==◌, arith, ◌&&◌, Bool, true, false, cond, List, [], ◌∷◌, length, Option, Some, None, Ok, Err, refl, ap, sym, ◌∙◌, codes, option_and_then, option_map}
 use Rattle.std.specs.List.{list_all}
 use Rattle.std.proofs.Math.Bool.{and-true, and-false}
@@ -22,7 +22,7 @@ use Rattle.mencius_input.specs.Scenario.{all_in, all_of, has_only, scenario_of, 
 use Rattle.mencius_input.proofs.lists.VersionItems.{lists_said_in}
 use Rattle.mencius_input.proofs.objects.SharedFields.{members_in, scenario_or_fault_is, shared_say}
 
--- ---- what an object says as a plan, by its fields
+-- ---- the plan in an object, by its fields
 
 abbrev pub plan_by_fields : ℕ → Option ℕ → Option ℕ → Option ℕ → Option ℕ → Option Data → Option PlanState
 plan_by_fields version ow os ot ol value =
@@ -38,11 +38,11 @@ plan_bound version ms = refl
 
 -- ---- the limits
 
--- as they are tested
+-- whether a plan passes the tests of the code
 abbrev passes_tests : ℕ → PlanState → Bool
 passes_tests servers plan = is_plan_for servers plan && list_all (list_all is_command_within) plan.commands
 
--- more lists than there may be servers are refused by the limits of both kinds
+-- numbers and lists are not within the limits if there are more lists than the greatest number of servers
 too_many : (shared : Shared) (numbers : Bool) (many : ℕ) → nat_le many most_servers ≡ false
     → (is_shared_within shared && (numbers && (many == shared.servers))) ≡ false
 unfolding is_field_within
@@ -112,7 +112,7 @@ plan_or_fault_is shared (Some workers) (Some seed) (Some turns) (Some loss) (Som
     ∙ ap (value_or_fault (passes_tests shared.servers))
     (mapped_items shared.servers workers seed turns loss shared.version (as_array d))
 
--- the answer
+-- the scenario that the code builds from the fields is the scenario in the object, or its fault
 pub plan_fields_say : (f : code.FieldValues) (ms : Members) → AreFieldValues Run f ms → has_only (names Run) ms ≡ true
     → said_of (λ shared own. plan_said shared own (option_map list_kept f.list)) (shared_in f.wholes.items)
     ≡ value_or_fault (is_scenario_within is_plan_within) (scenario_of run_names plan_read (object ms))

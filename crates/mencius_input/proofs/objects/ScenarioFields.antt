@@ -1,4 +1,4 @@
--- The fields of a scenario of `replay`, and what they say.
+-- The code builds the scenario of `replay` that the definitions give for the fields.
 use Rattle.std.proofs.Common.{◌≡◌, ℕ, [], true, codes, Option, Some, None, option_map, option_and_then, refl, ap, ◌∙◌}
 use Rattle.std.specs.List.{list_all}
 use Rattle.serde_json.specs.Data.{Data, Members, object}
@@ -14,7 +14,7 @@ use Rattle.mencius_input.specs.Scenario.{all_of, has_only, is_within_limits, sai
 use Rattle.mencius_input.proofs.lists.VersionItems.{events_said_in}
 use Rattle.mencius_input.proofs.objects.SharedFields.{no_course, scenario_or_fault_is, shared_say}
 
--- what an object says as events, by its field
+-- the events in an object are read from its field `events`
 pub schedule_bound : (version : ℕ) (ms : Members) → schedule_of version (object ms)
     ≡ option_and_then (all_of (said_by (event_of version))) (option_and_then as_array (get_member (codes "events") ms))
 unfolding schedule_of
@@ -25,7 +25,7 @@ schedule_or_fault_is : (shared : Shared) (o : Option Data) → schedule_said (op
 schedule_or_fault_is shared None = refl
 schedule_or_fault_is shared (Some d) = events_said_in shared.version (list_all is_event_within) d
 
--- the answer
+-- the scenario that the code builds from the fields is the scenario in the object, or its fault
 pub fields_say : (f : code.FieldValues) (ms : Members) → AreFieldValues Replay f ms → has_only (names Replay) ms ≡ true
     → said_of (λ shared own. schedule_said (option_map list_kept f.list) shared) (shared_in f.wholes.items)
     ≡ value_or_fault is_within_limits (written_of (object ms))
@@ -44,7 +44,7 @@ none_before : {X Y Z : Type 0} (o : Option X) (g : X → Option Y) (f : Y → Op
 none_before None g f e = refl
 none_before (Some x) g f e = absurd (cc)
 
--- what has no events is no scenario
+-- a value without events is not a scenario of `replay`
 pub no_events_said : (d : Data) → get (codes "events") d ≡ None → written_of d ≡ None
 unfolding schedule_of
 no_events_said d none =

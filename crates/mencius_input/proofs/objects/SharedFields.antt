@@ -1,4 +1,4 @@
--- The fields of both kinds of scenario, and what they say.
+-- The code builds the scenario that the definitions give for the fields of both kinds and for the course.
 use Rattle.std.proofs.Common.{◌≡◌, ℕ, ◌&&◌, List, ◌∷◌, Bool, true, false, cond, Option, Some, None, option_map, option_and_then, Result, Ok, Err, inl, inr, refl, sym, ap, ◌∙◌}
 use Rattle.std.specs.Prelude.{if◌then◌else◌, unwrap_or}
 use Rattle.std.specs.Option.{option_map_or}
@@ -24,7 +24,8 @@ use Rattle.mencius_input.specs.Scenario.{has_only, scenario_of, is_scenario_with
 abbrev pub members_in : Shared → Membership
 members_in shared = record { count = shared.servers; beta = shared.beta }
 
--- the limits of what both kinds say, and then those of a course, which may be tested in another way where the former hold
+-- the tests of the numbers and of the course together test the limits of a scenario. The test of the course must agree
+-- with its limits only if the numbers are within theirs
 pub scenario_or_fault_is : {X : Type 0} (shared : Shared) (test : X → Bool) (fits : Membership → X → Bool)
     → ((x : X) → (is_shared_within shared && test x) ≡ (is_shared_within shared && fits (members_in shared) x))
     → (o : Option X)
@@ -42,7 +43,7 @@ scenario_or_fault_is {X} shared test fits same (Some x) = by_test (test x) (same
     by_test false e =
         ap (λ bit. cond bit (Ok (with_course shared x)) (Err BadLimit)) (sym (and-false (is_shared_within shared)) ∙ e)
 
--- what a field is that is not there is within the limits
+-- the default of a field is within the limits of the field
 pub default_fits : (field : Field) (n : ℕ) → default_of field ≡ Some n → is_field_within field n ≡ true
 unfolding is_field_within
 default_fits Beta n is = sym (ap (λ o. is_field_within Beta (unwrap_or o n)) is)
@@ -55,7 +56,7 @@ default_fits Loss n is = absurd cc
 default_fits Events n is = absurd cc
 default_fits Commands n is = absurd cc
 
--- ---- what an object says, by its fields
+-- ---- the scenario in an object, by its fields
 
 abbrev pub scenario_by_fields : {X : Type 0} → Bool → Option ℕ → Option ℕ → Option ℕ → (ℕ → Option X) → Option (Scenario X)
 scenario_by_fields only ov os ox course_of =
@@ -90,7 +91,7 @@ module _ {X : Type 0} (course_said : Shared → List (Option ℕ) → Result X I
       let shared : Shared = record { version = version; servers = servers; beta = beta } in
       h shared ∙ ap (value_or_fault (is_scenario_within fits)) (mapped shared (course_of version))
 
--- the numbers of both kinds, and then a course by those that follow
+-- the scenario that is built from the numbers of both kinds and a course is the scenario in the object, or its fault
 pub shared_say : {X : Type 0} (kind : Kind) (course_said : Shared → List (Option ℕ) → Result X IoFault)
     (fits : Membership → X → Bool) (course_of : ℕ → Data → Option X) (wholes own : List (Option ℕ)) (ms : Members)
     → wholes ≡ field_number Version (object ms) ∷ field_number Servers (object ms) ∷ field_number Beta (object ms) ∷ own
@@ -109,14 +110,14 @@ shared_say {X} kind course_said fits course_of wholes own ms are only h =
     ∙ ap (λ a. value_or_fault (is_scenario_within fits) (scenario_by_fields a ov os ox read)) (sym only)
     ∙ ap (value_or_fault (is_scenario_within fits)) (sym (scenario_bound kind course_of ms))
 
--- ---- what is no scenario
+-- ---- values that are not scenarios
 
 none_behind : {X Y : Type 0} (o : Option X) (f : X → Option Y) → ((x : X) → o ≡ Some x → f x ≡ None)
     → option_and_then f o ≡ None
 none_behind None f h = refl
 none_behind (Some x) f h = h x refl
 
--- what has no course
+-- a value without a course is not a scenario
 pub no_course : {X : Type 0} (kind : Kind) (course_of : ℕ → Data → Option X) (d : Data)
     → ((version : ℕ) → course_of version d ≡ None) → scenario_of (own_names kind) course_of d ≡ None
 unfolding scenario_of
@@ -130,7 +131,7 @@ all_names : (kind : Kind) (ms : Members)
 all_names Replay ms = refl
 all_names Run ms = refl
 
--- nor what is no object with fields of the kind alone
+-- a value is not a scenario if it is not an object, or has a field that does not belong to the kind
 foreign_said : {X : Type 0} (kind : Kind) (course_of : ℕ → Data → Option X) (d : Data) → IsForeign kind d
     → scenario_of (own_names kind) course_of d ≡ None
 unfolding scenario_of
@@ -139,7 +140,7 @@ foreign_said kind course_of d foreign =
     none_behind (number_of servers_field d) _ (λ servers _. none_behind (number_of beta_field d) _ (λ beta _.
     none_behind (course_of version d) _ (λ course _. rw (all_names kind fields, foreign fields is) refl)))))
 
--- why there are no fields is the fault of the bytes
+-- a fault that prevents reading the fields is the fault of the scenario
 pub unread_fails : {X : Type 0} (kind : Kind) (course_of : ℕ → Data → Option X) (fits : Membership → X → Bool)
     (o : Option Data) (fault : IoFault) → IsUnread kind o fault
     → FailsBy fault

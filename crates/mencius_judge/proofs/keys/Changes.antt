@@ -1,4 +1,4 @@
--- What the keys held after each number of commands, with one command more.
+-- The timelines stay right after a further command.
 use Rattle.std.proofs.Common.{◌≡◌, ◌≢◌, ◌⊎◌, inl, inr, ℕ, zero, suc, ◌+◌, ◌≤◌, Bool, true, false, cond, Global, String, List, [], ◌∷◌, ◌++◌, Option, Some, None, length, take, arith, refl, sym, subst, ap, ◌∙◌, ⊎_elim, length-append}
 use Rattle.std.specs.BTreeMap.{BTreeMap, get_by_text}
 use Rattle.std.specs.Str.{bytes_eq}
@@ -34,7 +34,7 @@ get-taken m other key =
     get-remove nat_list_cmp_total m other key
     ∙ ap (λ bit. cond bit None (finite.get m key)) (sym (tested other key))
 
--- an operation leaves each other key
+-- an operation does not change any other key
 get_elsewhere : (m : KeyMap) (op : Op) (key : List ℕ) → bytes_eq (key_of op) key ≡ false
     → finite.get (apply m op) key ≡ finite.get m key
 get_elsewhere m (Set other text) key e =
@@ -48,7 +48,7 @@ get_elsewhere m (Cas other held text) key e = by_held (has_text (finite.get m ot
     by_held true = get-put m other text key ∙ ap (λ bit. cond bit (Some text) (finite.get m key)) e
     by_held false = refl
 
--- and this becomes of its own
+-- a key that is bound to a text then has that text
 pub put_there : (m : KeyMap) (key text : List ℕ) → Some text ≡ finite.get (finite.insert m key text) key
 put_there m key text =
     sym (get-put m key text key ∙ ap (λ bit. cond bit (Some text) (finite.get m key)) (same_bytes key))
@@ -97,7 +97,7 @@ module _ (cs : List Command) (c : Command) where
 
   -- ---- all timelines
 
-  -- a key whose text did not change
+  -- if the text of a key did not change, its timeline is right for a further command
   pub quiet : (key : List ℕ) (o : Option Timeline) → IsTimelineOf (held_by cs key) (length cs) o
       → held_by (cs ++ c ∷ []) key (length cs + 1) ≡ held_by cs key (length cs)
       → IsTimelineOf (held_by (cs ++ c ∷ []) key) (length cs + 1) o
@@ -118,7 +118,7 @@ module _ (cs : List Command) (c : Command) where
       subst (λ n. IsTimelineOf (held_by (cs ++ c ∷ []) key) n (get_by_text by_key key))
       (omega (arith, length-append cs (c ∷ []))) (h key)
 
--- what a key holds now
+-- the present text of a timeline is the text after all commands
 pub text_now : (held : ℕ → Option (List ℕ)) (n : ℕ) (o : Option Timeline) → IsTimelineOf held n o → text_of o ≡ held n
 text_now held n None h = sym (h n (omega arith))
 text_now held n (Some t) h = let since = h.since in sym (h.now n since (omega arith))
@@ -130,7 +130,7 @@ key_cases x y = ⊎_elim
     let yes : bytes_eq x y ≡ true = (bytes_eq-Decides x y).1 same in cc))
     (cases_Bool (bytes_eq x y))
 
--- one command more, where the timelines were changed as its key's text was
+-- the change of one key's timeline to this text makes it right for a further command, and changes no other timeline
 abbrev pub IsChange : BTreeMap (String Global) Timeline → BTreeMap (String Global) Timeline → List ℕ → Option (List ℕ) → ℕ → Type 0
 IsChange by_key new key text count =
     ((held after : ℕ → Option (List ℕ)) (n : ℕ) → IsTimelineOf held n (get_by_text by_key key) → n + 1 ≡ count

@@ -1,4 +1,4 @@
--- The periods in which a key held a text, and the first number of commands in them.
+-- The periods of a text give the first number of commands after which a key held it.
 use Rattle.std.proofs.Common.{◌≡◌, ◌≢◌, ◌⊎◌, inl, inr, ℕ, zero, suc, ◌+◌, ◌<◌, ◌≤◌, leb, max, Bool, true, false, List, [], ◌∷◌, ◌++◌, Option, Some, None, MatchOption, length, slice_get, slice_index_or, arith, refl, sym, subst, ap, ◌∙◌, ⊎_elim}
 use Rattle.std.specs.List.Sorted.{IsPartitionPoint, IsPartitionedBy}
 use Rattle.std.proofs.lemmas.Bool.{cases_Bool}
@@ -41,8 +41,9 @@ item_either (z ∷ xs) y (suc i) x e =
 pub item_within : (xs : List Period) (i : ℕ) (x : Period) → slice_get xs i ≡ Some x → i < length xs
 item_within xs i x e = (item_is xs i x x e).0
 
--- ---- the first that does not end before a number
+-- ---- the first period that does not end before a number
 
+-- the period stops at n or before
 abbrev pub ends_by : ℕ → Period → Bool
 ends_by n p = leb p.stop n
 
@@ -166,7 +167,7 @@ module _ (held : ℕ → Option (List ℕ)) (to : ℕ) (t : Timeline) (h : IsTim
         (λ (le : t.since ≤ m). other (omega (arith, low, high)) (sym (h.now m le high) ∙ same))
         (less_or m t.since)
 
--- ---- one change more
+-- ---- a further change
 
 pub text_cases : (x y : Option (List ℕ)) → (x ≡ y) ⊎ (x ≢ y)
 text_cases None None = inl refl
@@ -271,7 +272,8 @@ module _ (held after : ℕ → Option (List ℕ)) (n : ℕ) (t new : Timeline) (
       absurd (ne (sym same ∙ kept m (omega (arith, less)) ∙ h.now m late (omega (arith, less)))))
       (less_or m t.since)
 
-  -- a fact of the periods of each text, old and new
+  -- a fact about the periods of each text holds if it holds for the old text, whose periods have grown, and for all
+  -- other texts
   each : (P : Option (List ℕ) → List Period → Type 0) → P t.text grown
       → ((x : Option (List ℕ)) → x ≢ t.text → P x (periods_of t x)) → (x : Option (List ℕ)) → P x (periods_of new x)
   each P own other x = ⊎_elim
@@ -299,7 +301,7 @@ module _ (held after : ℕ → Option (List ℕ)) (n : ℕ) (t new : Timeline) (
         (each (λ x periods. Covers x periods (n + 1)) grown_covers other_covers);
   }
 
--- a timeline that nothing changed is that of one command more
+-- if the text does not change, the same timeline is right for a further command
 pub unchanged : (held after : ℕ → Option (List ℕ)) (n : ℕ) (t : Timeline) → IsTimeline held n t
     → ((m : ℕ) → m ≤ n → after m ≡ held m) → after (n + 1) ≡ held n → IsTimeline after (n + 1) t
 unchanged held after n t h kept last = record {
@@ -324,7 +326,7 @@ unchanged held after n t h kept last = record {
     either : (a c : ℕ) → a ≤ c + 1 → (a ≤ c) ⊎ (a ≡ c + 1)
     either a c h = grind arith
 
--- a new timeline is that of a key that never held anything
+-- a new timeline is right for a key that has never held a text
 pub fresh : (held : ℕ → Option (List ℕ)) (n : ℕ) (t : Timeline) → ((m : ℕ) → m ≤ n → held m ≡ None)
     → t.text ≡ None → t.since ≡ 0 → ((x : Option (List ℕ)) → periods_of t x ≡ []) → IsTimeline held n t
 fresh held n t none text since periods = record {
@@ -342,7 +344,7 @@ fresh held n t none text since periods = record {
     empty : (x : Option (List ℕ)) (i : ℕ) (p : Period) → slice_get (periods_of t x) i ≡ Some p → ⊥
     empty x i p there = let none : slice_get (periods_of t x) i ≡ None = ap (λ ps. slice_get ps i) (periods x) in cc
 
--- the same, where the number of commands has a name
+-- a changed timeline is right for `count` commands, which are one more than before
 pub changed_at : (held after : ℕ → Option (List ℕ)) (n count : ℕ) (t new : Timeline) → n + 1 ≡ count → IsTimeline held n t
     → ((m : ℕ) → m ≤ n → after m ≡ held m) → (text : Option (List ℕ)) → after count ≡ text → new.text ≡ text
     → new.since ≡ count

@@ -1,4 +1,4 @@
--- Maps by text, with one entry changed.
+-- Changing one entry of a map by texts leaves the other entries unchanged.
 use Rattle.std.proofs.Common.{◌≡◌, ◌≢◌, ℕ, true, false, cond, List, Option, None, OnOk, Result, Ok, Err, Global, String, refl, sym, ap, ◌∙◌, ⊎_elim, string_bytes}
 use Rattle.std.specs.BTreeMap as tree
 use Rattle.std.specs.BTreeMap.{BTreeMap, get_by_text, is_at}
@@ -20,7 +20,7 @@ other_bytes xs ys ne = ⊎_elim
 pub same_bytes : (xs : List ℕ) → bytes_eq xs xs ≡ true
 same_bytes xs = (bytes_eq-Decides xs xs).1 refl
 
--- an entry that another key has stays
+-- an update does not change the entry of another text
 pub text_elsewhere : {X : Type 0} (xs : List ℕ) (m n : BTreeMap (String Global) X) (y : Option X)
     → tree.UpdatesBy string_cmp (λ k. slice_cmp nat_cmp xs (string_bytes k)) m n y
     → (ys : List ℕ) → ys ≢ xs → get_by_text n ys ≡ get_by_text m ys
@@ -31,7 +31,7 @@ text_elsewhere xs m n y h ys ne =
 pub no_text : {X : Type 0} (m : BTreeMap (String Global) X) (xs : List ℕ) → tree.IsEmpty m → get_by_text m xs ≡ None
 no_text m xs e = ap (λ es. lookup (is_at (λ k. slice_cmp nat_cmp xs (string_bytes k))) es) e
 
--- what follows of an `Ok`
+-- if P implies Q, a result that satisfies P on `Ok` satisfies Q on `Ok`
 pub on_ok : {X E : Type 0} {P Q : Type 0} (r : Result X E) → (P → Q) → OnOk r P → OnOk r Q
 on_ok (Ok x) f h = f h
 on_ok (Err e) f h = h

@@ -1,4 +1,4 @@
--- A line that was written says its observation, and a log's lines say the log.
+-- A written line is read as its observation, and a written log is read as that log.
 use Rattle.std.proofs.Common.{◌≡◌, ◌≢◌, ℕ, ◌+◌, ◌<◌, ◌≤◌, ◌^◌, ◌&&◌, List, [], ◌∷◌, ◌++◌, length, Bool, true, false, Some, None, Option, Ok, refl, ap, subst, sym, arith, codes, nat_le, nat_lt, lit<}
 use Rattle.std.specs.Prelude.{IsAscii, decimal}
 use Rattle.std.specs.List.{list_all}
@@ -125,7 +125,7 @@ within_again (Tell reader server) h =
 
 -- ---- the bytes of a line
 
--- a byte of ASCII that ends no line
+-- the byte is ASCII and at least 32, so it is not a line feed
 abbrev is_shown : ℕ → Bool
 is_shown x = nat_le 32 x && nat_lt x 128
 
@@ -144,7 +144,7 @@ shown_in_line (x ∷ xs) h =
     let parts = and_parts (is_shown x) (list_all is_shown xs) h in
     (λ e. grind (arith, nat_tests, parts.0, e), shown_in_line xs parts.1)
 
--- a text of such bytes, and at most so long
+-- each byte of the text is ASCII and at least 32, and there are at most `most` bytes
 record IsShort (most : ℕ) (s : List ℕ) : Type 0 where
   shown : AreShown s
   short : length s ≤ most
@@ -155,7 +155,7 @@ beside m n xs ys h l = record {
   short = omega (arith, length-append xs ys, h.short, l.short);
 }
 
--- two texts with one byte between
+-- two short texts with a byte between them are a short text
 around : (m n byte : ℕ) (xs ys : List ℕ) → is_shown byte ≡ true → IsShort m xs → IsShort n ys
     → IsShort (m + (1 + n)) (xs ++ byte ∷ ys)
 around m n byte xs ys one h l =
@@ -205,7 +205,7 @@ name_shown xs h = name_bytes_shown xs h
 name_short : (most : ℕ) (xs : List ℕ) → is_name xs ≡ true → length xs ≤ most → IsShort most xs
 name_short most xs h l = record { shown = name_shown xs h; short = l }
 
--- a word, and names behind it
+-- each byte of an operation's text is ASCII and at least 32, because the text is a word and names
 op_shown : (o : Op) → bad_op o ≡ None → AreShown (op_text o)
 op_shown (Set key text) h =
     let good = entry_good key [] text h in
@@ -230,7 +230,7 @@ answer_short (Some text) h = record { shown = name_shown text h.0; short = omega
     answer_length : (s : List ℕ) → is_text_length s ≡ true → length s ≤ most_text_bytes
     answer_length s h = grind (arith, nat_tests)
 
--- behind the word of its kind
+-- a text after the word of its kind fits into a line
 behind : (word text : List ℕ) (m n : ℕ) → IsShort m word → IsShort n text → m + n ≤ most_line_bytes
     → IsShort most_line_bytes (word ++ text)
 behind word text m n h l le =

@@ -1,4 +1,4 @@
--- What a judge makes of a reply.
+-- A judge is right about a reply.
 use Rattle.std.proofs.Common.{◌≡◌, ℕ, ◌<◌, true, false, List, ◌∷◌, ◌++◌, Option, Some, None, is_some, option_map, refl, sym, ap, ◌∙◌}
 use Rattle.std.specs.List.{Contains}
 use Rattle.std.specs.Ordering.{nat_cmp}
@@ -33,7 +33,7 @@ row_absent w rows id h small there = sym (h.found id small) ∙ mapped (get nat_
     mapped None e = refl
     mapped (Some s) e = absurd (cc)
 
--- where a map knows no other text than this, no other reply was given
+-- if the table of replies has no text other than this one, the log has no other reply to the command
 pub no_other : (w : Log) (id : CommandId) (replies : Replies) (ids : List CommandId) (text : Option (List ℕ))
     → AreOneReply w → AreReplies w replies ids → id.number < number_count → IsNoOther replies (identity_key id) text
     → (x : Option (List ℕ)) → Contains w (Reply id x) → x ≡ text
@@ -47,7 +47,8 @@ no_other w id replies ids text one table small none x there = by_known (get nat_
     by_known (Some known) e =
         one id x known there (reply_found w id known (sym (table.first id small) ∙ e)) ∙ none known e
 
--- where a map knows no other answer than this text, the text is right wherever the command stands
+-- if the table of executions has no reply other than this text, the text is right at the command's place in the longest
+-- history
 pub no_other_answer : (w : Log) (order : List CommandId) (executions : Executions) (id : CommandId) (text : Option (List ℕ))
     → AreExecutions w order executions → id.number < number_count → IsNoOtherExecution executions (identity_key id) text
     → (front back : List CommandId) (c : Command) → order ≡ front ++ id ∷ back → command_of w id ≡ Some c

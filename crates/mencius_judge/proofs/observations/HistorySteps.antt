@@ -1,4 +1,4 @@
--- How histories grow, one execution after the other.
+-- An execution follows the longest history, extends it, or breaks a promise.
 use Rattle.std.proofs.Common.{◌≡◌, ◌≢◌, ◌⊎◌, inl, inr, ℕ, zero, suc, ◌+◌, ◌<◌, ◌≤◌, Bool, true, false, cond, List, [], ◌∷◌, ◌++◌, Some, get_or, length, set, slice_get, take, arith, refl, sym, subst, ap, ◌∙◌, ⊎_elim, get_or-set_other, get_or-set_same, length-append}
 use Rattle.std.proofs.Common.{eqb}
 use Rattle.std.proofs.lemmas.Bool.{cases_eq, eq-eqb, eqb-true}
@@ -20,7 +20,7 @@ pub end_of : {A : Type 0} (xs : List A) (x : A) → slice_get (xs ++ x ∷ []) (
 end_of [] x = refl
 end_of (y ∷ xs) x = end_of xs x
 
--- an item of a beginning is one of the whole
+-- an item of a prefix is at the same place of the whole list
 pub whole_get : {A : Type 0} (n : ℕ) (xs : List A) (m : ℕ) (x : A) → slice_get (take n xs) m ≡ Some x → slice_get xs m ≡ Some x
 whole_get zero xs m x h = absurd (cc)
 whole_get (suc n) [] m x h = h
@@ -32,9 +32,9 @@ more_taken xs n x h =
     take_more xs n x (slice_get_within xs n x h)
     ∙ ap (λ y. take n xs ++ y ∷ []) (get_or_from_slice_get xs n x x h)
 
--- ---- one more execution
+-- ---- a further execution
 
--- the server's own history, and those of others
+-- an execution extends the history of its server, and of no other server
 own : (w : Log) (p : ℕ) (id : CommandId) → history (Execute p id ∷ w) p ≡ history w p ++ id ∷ []
 own w p id = ap (λ d. cond d (history w p ++ id ∷ []) (history w p)) (eq-eqb p p refl)
 
@@ -81,7 +81,7 @@ module _ (w : Log) (order : List CommandId) (counts : List ℕ) (h : AreHistorie
       some : (q : ℕ) × (order ≡ history (Execute p id ∷ w) q)
       some = (h.some.0, h.some.1 ∙ sym (others w p h.some.0 id apart))
 
-  -- the history of a server that executes where no other had come
+  -- a server that executes a command at a new place then has the whole order and the command
   pub grown : n ≡ length order → history (Execute p id ∷ w) p ≡ order ++ id ∷ []
   grown last = own w p id ∙ ap (λ xs. xs ++ id ∷ []) (h.each p ∙ take_all n order (omega (arith, last)))
 
@@ -110,7 +110,7 @@ module _ (w : Log) (order : List CommandId) (counts : List ℕ) (h : AreHistorie
           (omega (arith, h.within q, length-append order (id ∷ []))))
           (cases_eq p q)
 
-  -- another command at a place that is taken
+  -- an execution that differs from the order at its place breaks the promise SameOrder
   pub differs : (x : CommandId) → slice_get order n ≡ Some x → x ≢ id → AreComparable (Execute p id ∷ w) → ⊥
   differs x there ne comparable =
       ⊎_elim (λ (r : IsPrefix mine theirs). ne (sym (clash mine theirs r here at (omega (arith, long)))))
@@ -159,7 +159,7 @@ module _ (w : Log) (order : List CommandId) (counts : List ℕ) (h : AreHistorie
           let g : slice_get ys n ≡ slice_get xs n = ap (λ zs. slice_get zs n) (sym r.1) ∙ slice_get-append xs r.0 n less in
           cc
 
-  -- a command that was executed already
+  -- the execution of a command at a new place breaks the promise Once if the command is already in the order
   pub twice : n ≡ length order → has_id order id ≡ true → StandOnce (Execute p id ∷ w) → ⊥
   twice last inside once =
       let place = has_place order id inside in
@@ -170,7 +170,7 @@ module _ (w : Log) (order : List CommandId) (counts : List ℕ) (h : AreHistorie
       let same = once p place.0 (length order) id first second in
       omega (arith, same, place.1)
 
--- what is kept of all histories
+-- the histories that the tables describe keep the promise SameOrder
 pub comparable : (w : Log) (order : List CommandId) (counts : List ℕ) → AreHistories w order counts → AreComparable w
 comparable w order counts h p q =
     rw (h.each p, h.each q) (prefix_either _ _ order (take_begins (get_or counts p 0) order)
@@ -182,7 +182,7 @@ stand_once w order counts h facts p n m id e f =
     facts.once n m id (whole_get (get_or counts p 0) order n id (ap (λ xs. slice_get xs n) (sym (h.each p)) ∙ e))
     (whole_get (get_or counts p 0) order m id (ap (λ xs. slice_get xs m) (sym (h.each p)) ∙ f))
 
--- one more that was not there
+-- each identity is at one place of the list only
 abbrev pub IsOnce : List CommandId → Type 0
 IsOnce order =
     (n m : ℕ) (id : CommandId) → slice_get order n ≡ Some id → slice_get order m ≡ Some id → n ≡ m

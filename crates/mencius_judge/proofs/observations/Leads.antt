@@ -1,4 +1,4 @@
--- What a judge makes of an execution where no other server had come.
+-- A judge is right about an execution at a place that no server had reached.
 use Rattle.std.proofs.Common.{◌≡◌, ℕ, ◌+◌, ◌<◌, ◌≤◌, true, false, Bor, List, [], ◌∷◌, ◌++◌, Option, Some, None, Global, String, get_or, is_some, length, set, slice_get, take, arith, refl, sym, subst, ap, ◌∙◌, length-take}
 use Rattle.std.specs.Prelude.{IsSome}
 use Rattle.std.specs.Option.{option_copied}
@@ -32,7 +32,7 @@ pub copied_some : {A : Type 0} (o : Option (Bor A)) → is_some (option_copied o
 copied_some None = refl
 copied_some (Some x) = refl
 
--- how many commands a server has executed
+-- the judge's count for a server is the length of the server's history
 pub size_is : (j : Judge) (w : Log) (p : ℕ) → HasSeenLog j w
     → length (history w p) ≡ get_or j.histories.counts.items p 0
 size_is j w p h =
@@ -58,7 +58,7 @@ module _ (j : Judge) (w : Log) (h : HasSeenLog j w) (p : ℕ) (id : CommandId) (
   pub longer : history (Execute p id ∷ w) p ≡ order ++ id ∷ []
   longer = grown w order counts h.histories p known id last
 
-  -- the server has executed the longest history
+  -- the server has executed the whole longest history
   pub whole : history w p ≡ order
   whole = h.histories.each p ∙ ap (λ n. take n order) last ∙ all order
     where
@@ -85,7 +85,7 @@ module _ (j : Judge) (w : Log) (h : HasSeenLog j w) (p : ℕ) (id : CommandId) (
       let given : has_id (with_reply_before w id) behind ≡ true = ap (λ ids. has_id ids behind) before.1 ∙ r.0 in
       (given, ap (λ ids. has_id ids behind) whole ∙ r.1, too_early w p id behind order longer given r.1)
 
-  -- what the map answers at the new place
+  -- the text that a map returns after the whole order is the right reply at the new place
   pub lead_answer : (text : Option (List ℕ)) → text ≡ out (commands_of w order) row.command
       → IsAnswerAt (Execute p id ∷ w) id (length order) text
   lead_answer text is = record {

@@ -1,4 +1,4 @@
--- What is kept of the longest history, with one more observation.
+-- The facts about the longest history stay true after each observation that breaks no promise.
 use Rattle.std.proofs.Common.{◌≡◌, ◌⊎◌, inl, inr, ℕ, zero, suc, Bool, true, false, List, [], ◌∷◌, ◌++◌, Option, Some, IsTrue, get_or, is_some, length, slice_get, drop, rules, refl, sym, subst, ap, ◌∙◌, append_assoc}
 use Rattle.std.specs.List.{Contains}
 use Rattle.std.proofs.lemmas.List.{take-append-drop}
@@ -15,7 +15,7 @@ use Rattle.mencius_judge.proofs.promises.Logs.{AreKnown, contains_cons, kept_bef
 
 -- ---- lists
 
--- where an item stands in a list with one more: at the end, or in the list
+-- an item of a list with another item at the end is this last item, or an item of the list
 pub split_end : {A : Type 0} (xs : List A) (y : A) (front back : List A) (x : A) → xs ++ y ∷ [] ≡ front ++ x ∷ back
     → ((front ≡ xs) × (x ≡ y)) ⊎ ((rest : List A) × (xs ≡ front ++ x ∷ rest))
 split_end [] y [] back x e = inl (refl, cc)
@@ -34,7 +34,7 @@ pub item_here : {A : Type 0} (front back : List A) (x : A) → slice_get (front 
 item_here [] back x = refl
 item_here (y ∷ front) back x = item_here front back x
 
--- an item splits its list
+-- a list with an identity is the part before it, the identity, and the part after it
 pub split_at : (xs : List CommandId) (id : CommandId) → has_id xs id ≡ true
     → (front : List CommandId) × (back : List CommandId) × (xs ≡ front ++ id ∷ back)
 split_at xs id h = let place = has_place xs id h in by_place xs place.0 place.2
@@ -61,7 +61,7 @@ pub item_known : (w : Log) (order front back : List CommandId) (id : CommandId) 
 item_known w order front back id h e =
     h (length front) id (ap (λ xs. slice_get xs (length front)) e ∙ item_here front back id)
 
--- what is answered at a place stays when more is submitted
+-- the reply of a map at a place does not change after another submission
 pub kept_out : (w : Log) (x : Command) (order front back : List CommandId) (id : CommandId) (c : Command)
     → AreKnown w order → order ≡ front ++ id ∷ back
     → out (commands_of (Submit x ∷ w) front) c ≡ out (commands_of w front) c
@@ -160,10 +160,10 @@ order_reply w x text order h right = record {
       ];
 }
 
--- ---- what is kept of all histories
+-- ---- promises about all histories
 
 module _ (w : Log) (order : List CommandId) (counts : List ℕ) (h : AreHistories w order counts) (facts : IsOrder w order) where
-  -- where a command stands in a history, it stands in the longest one
+  -- if a command is in a history, it is at the same place of the longest one
   longer : (p : ℕ) (front back : List CommandId) (id : CommandId) → history w p ≡ front ++ id ∷ back
       → order ≡ front ++ id ∷ (back ++ drop (get_or counts p 0) order)
   longer p front back id e =

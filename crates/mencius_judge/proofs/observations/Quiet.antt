@@ -1,4 +1,4 @@
--- What a judge holds, with one more observation that is of a reader alone.
+-- The data of a judge, apart from the floors, stays right after a lookup or a Tell observation.
 use Rattle.std.proofs.Common.{inl, inr, ℕ, List, ◌∷◌, Option}
 use Rattle.std.specs.List.{Contains}
 use Rattle.std.specs.BTreeMap.{BTreeMap}
@@ -11,7 +11,7 @@ use Rattle.mencius_judge.specs.Promises.{AreOneCommand, AreOneReply}
 use Rattle.mencius_judge.specs.Tables.{AreExecutions, AreHistories, AreReplies, AreSubmissions, Executions, IsOrder, Replies}
 use Rattle.mencius_judge.proofs.promises.Logs.{contains_cons}
 
--- ---- lookup
+-- ---- lookups
 
 module _ (w : Log) (reader : ℕ) (key : List ℕ) (text : Option (List ℕ)) where
   lookup_command : (c : Command) → Contains (Lookup reader key text ∷ w) (Submit c) → Contains w (Submit c)
@@ -50,7 +50,7 @@ module _ (w : Log) (reader : ℕ) (key : List ℕ) (text : Option (List ℕ)) wh
       → AreExecutions (Lookup reader key text ∷ w) order executions
   executions_lookup order executions h = record { all = h.all; right = h.right }
 
--- ---- tell
+-- ---- Tell observations
 
 module _ (w : Log) (reader server : ℕ) where
   tell_command : (c : Command) → Contains (Tell reader server ∷ w) (Submit c) → Contains w (Submit c)

@@ -1,4 +1,4 @@
--- What a judge holds, with one more observation.
+-- The data of a judge stays right after a submission, an execution or a reply.
 use Rattle.std.proofs.Common.{◌≡◌, ◌≢◌, inl, inr, ℕ, zero, suc, ◌<◌, true, false, cond, ◌||◌, Bool, List, [], ◌∷◌, ◌++◌, Option, Some, None, is_some, length, option_map, slice_get, take, arith, refl, sym, subst, ap, ◌∙◌, ⊎_elim, length-append, append-nil}
 use Rattle.std.specs.Option.{option_or}
 use Rattle.std.specs.Prelude.{IsSome}
@@ -21,7 +21,7 @@ use Rattle.mencius_judge.proofs.observations.HistorySteps.{end_of}
 use Rattle.mencius_judge.proofs.promises.Logs.{contains_cons, kept_before, kept_command, new_before, new_command, other_command}
 use Rattle.mencius_judge.proofs.observations.OrderSteps.{executed_reply, kept_at, kept_out, split_end}
 
--- ---- promises on commands and replies alone
+-- ---- promises about commands and replies only
 
 pub one_submit : (w : Log) (c : Command) → AreOneCommand w
     → ((d : Command) → Contains w (Submit d) → c.id ≡ d.id → c ≡ d) → AreOneCommand (Submit c ∷ w)
@@ -93,7 +93,7 @@ replies_reply w id text h last z x y first second =
 
 -- ---- the commands with a reply
 
--- a reply more adds its command, or nothing
+-- a further reply adds its command to the commands with a reply, or adds nothing
 with_reply_more : (w : Log) (x : CommandId) (text : Option (List ℕ))
     → (ids : List CommandId) × (with_reply (Reply x text ∷ w) ≡ with_reply w ++ ids)
 with_reply_more w x text = by_test (is_some (reply_of w x))
@@ -113,7 +113,7 @@ with_reply_again w x text e = ap (λ d. cond d (with_reply w) (with_reply w ++ x
 -- ---- the tables of submissions
 
 module _ (w : Log) (rows : BTreeMap ℕ Submission) (h : AreSubmissions w rows) where
-  -- what a look-up says
+  -- a row of the table has the command of its identity
   pub row_found : (id : CommandId) (s : Submission) → id.number < number_count → get nat_cmp rows (identity_key id) ≡ Some s
       → command_of w id ≡ Some s.command
   row_found id s small e = sym (h.found id small) ∙ ap (option_map (λ (s : Submission). s.command)) e
@@ -183,7 +183,7 @@ module _ (w : Log) (rows : BTreeMap ℕ Submission) (h : AreSubmissions w rows) 
         );
   }
 
--- a reply to another command
+-- a reply to another command does not change the first reply to this one
 reply_elsewhere : (w : Log) (x : CommandId) (text : Option (List ℕ)) (id : CommandId) → x ≢ id
     → (o : Option (Option (List ℕ))) → option_or o (cond (is_same_id x id) (Some text) None) ≡ o
 reply_elsewhere w x text id ne None = ap (λ d. cond d (Some text) None) (other_id x id ne)
@@ -237,7 +237,7 @@ table_reply w x text replies new ids h small updates none = record {
     all_small (z ∷ xs) each zero id e = each zero id e
     all_small (z ∷ xs) each (suc n) id e = all_small xs (λ m y g. each (suc m) y g) n id e
 
--- the same reply once more
+-- another reply to a command with a reply leaves the tables right
 pub table_again : (w : Log) (x : CommandId) (text : Option (List ℕ)) (replies : Replies) (ids : List CommandId)
     → AreReplies w replies ids → is_some (reply_of w x) ≡ true → AreReplies (Reply x text ∷ w) replies ids
 table_again w x text replies ids h there = record {

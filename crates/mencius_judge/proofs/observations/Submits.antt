@@ -1,4 +1,4 @@
--- What a judge makes of a submission.
+-- A judge is right about a submission.
 use Rattle.std.proofs.Common.{◌≡◌, true, List, ◌∷◌, Some, None, is_some, Global, String, sym, subst, ap, ◌∙◌}
 use Rattle.std.specs.List.{Contains}
 use Rattle.std.specs.BTreeMap.{BTreeMap}
@@ -13,7 +13,7 @@ use Rattle.mencius_judge.specs.Timelines.{AreTimelines}
 use Rattle.mencius_judge.proofs.promises.Logs.{command_found, command_known, kept_commands}
 use Rattle.mencius_judge.proofs.observations.Steps.{one_submit}
 
--- a command that was submitted before
+-- submitting the same command again keeps the promise OneCommand
 pub again_one : (w : Log) (c d : Command) → AreOneCommand w → command_of w c.id ≡ Some d → d.op ≡ c.op
     → AreOneCommand (Submit c ∷ w)
 again_one w c d h found ops =
@@ -28,7 +28,7 @@ again_one w c d h found ops =
         let build : CommandId → Command = λ id. record { id = id; op = d.op } in
         ap build ids ∙ ap (λ op. record { id = c.id; op = op }) ops
 
--- a new one
+-- submitting a command with a new identity keeps the promise OneCommand
 pub new_one : (w : Log) (c : Command) → AreOneCommand w → command_of w c.id ≡ None → AreOneCommand (Submit c ∷ w)
 new_one w c h none =
     one_submit w c h (λ x there ids.

@@ -1,4 +1,4 @@
--- What an observation that breaks a promise shows.
+-- If a judge's tables contradict an observation, the observation breaks a promise.
 use Rattle.std.proofs.Common.{◌≡◌, ◌≢◌, ℕ, zero, suc, ◌<◌, ◌≤◌, Bool, true, false, List, [], ◌∷◌, ◌++◌, Option, Some, None, is_some, slice_get, take, arith, refl, sym, ap, ◌∙◌}
 use Rattle.std.specs.Prelude.{IsTrue}
 use Rattle.std.specs.List.{Contains}
@@ -46,7 +46,7 @@ too_early w p id x order grown before absent h =
     clash true e t = cc
     clash false e t = cc
 
--- where a command stands in the longest history, and is answered there
+-- the table of executions has the place of a command and the right reply there
 pub answer_at : (w : Log) (id : CommandId) (c : Command) (order : List CommandId) (counts : List ℕ) (executions : Executions)
     (x : Execution) → AreHistories w order counts → AreExecutions w order executions → id.number < number_count
     → command_of w id ≡ Some c → get nat_cmp executions (identity_key id) ≡ Some x → IsAnswerAt w id x.place x.reply
@@ -78,13 +78,13 @@ answer_after w y text id n x at = record {
   is = at.is;
 }
 
--- a reply that is another one breaks the promise
+-- a reply that differs from the right one breaks the promise RightReply
 pub wrong_reply : (w : Log) (id : CommandId) (place : ℕ) (expected found : Option (List ℕ)) → IsAnswerAt w id place expected
     → Contains w (Reply id found) → expected ≢ found → AreRightReplies w → ⊥
 wrong_reply w id place expected found at there ne right =
     ne (at.is ∙ sym (right at.server at.front at.back id at.command found at.splits at.there there))
 
--- ---- which commands with a reply stand in the longest history
+-- ---- the commands with a reply that are in the longest history
 
 module _ (w : Log) (order : List CommandId) (executions : Executions)
     (small : (n : ℕ) (id : CommandId) → slice_get (with_reply w) n ≡ Some id → id.number < number_count)
@@ -99,7 +99,7 @@ module _ (w : Log) (order : List CommandId) (executions : Executions)
       sym (h.all y (small place.0 y there))
       ∙ facts.each place.0 y less (ap (λ ys. slice_get ys place.0) listed ∙ there)
 
-  -- one that does not
+  -- the first command with a reply that was not executed is not in the longest history
   pub unsettled_before : (settled behind : ℕ) (y : CommandId) → settled < behind → slice_get (with_reply w) settled ≡ Some y
       → get nat_cmp executions (identity_key y) ≡ None
       → (has_id (take behind (with_reply w)) y ≡ true) × (has_id order y ≡ false)

@@ -1,4 +1,4 @@
--- What is counted in a log.
+-- The counts that a judge returns are the counts of the log that it has seen.
 use Rattle.std.proofs.Common.{◌≡◌, ◌+◌, ℕ, suc, Bool, true, false, cond, not, List, [], ◌∷◌, Some, count_by, is_some, length, slice_get, arith, refl, sym, ap, ◌∙◌}
 use Rattle.std.proofs.lemmas.List.Sums.{sum_by-cons}
 use Rattle.mencius_base.specs.declared.command.Command.{Command}
@@ -33,7 +33,7 @@ same_count f g (x ∷ xs) h =
     ∙ ap (λ n. cond (g x) 1 0 + n) (same_count f g xs (λ n y e. h (suc n) y e))
     ∙ sym (sum_by-cons (λ y. cond (g y) 1 0) x xs)
 
--- ---- what a judge counts
+-- ---- the counts of a judge
 
 pub counted : (j : Judge) (w : Log) (c : Counts) → HasSeenLog j w
     → c.servers ≡ count_by is_some_length j.histories.counts.items → c.commands ≡ j.commands

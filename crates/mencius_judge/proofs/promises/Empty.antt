@@ -1,4 +1,4 @@
--- The empty log.
+-- A new judge has seen the empty log.
 use Rattle.std.proofs.Common.{◌≡◌, ℕ, zero, suc, List, [], ◌∷◌, ◌++◌, Some, None, get_or, is_some, option_map, replicate, slice_get, take, arith, refl, sym, ap, ◌∙◌}
 use Rattle.std.proofs.Math.Seq.{take-nil}
 use Rattle.std.specs.Prelude.{unwrap_or}

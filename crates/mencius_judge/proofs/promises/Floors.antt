@@ -1,4 +1,4 @@
--- What readers may have seen, and the least of it.
+-- The floor of a reader is the lowest number of commands that the reader may have seen.
 use Rattle.std.proofs.Common.{◌≡◌, ◌≢◌, ◌⊎◌, ℕ, zero, suc, ◌<◌, ◌≤◌, ◌==◌, Bool, true, false, List, [], ◌∷◌, Option, Some, get_or, is_some, length, slice_get, take, arith, refl, sym, subst, ap, ◌∙◌, ⊎_elim}
 use Rattle.std.specs.Prelude.{MatchBool, max, unwrap_or}
 use Rattle.std.specs.Ordering.{nat_cmp}
@@ -16,9 +16,9 @@ use Rattle.mencius_judge.specs.Timelines.{HasNone, IsFirstCount, held_by}
 use Rattle.mencius_judge.specs.Violations.{IsNowhere}
 use Rattle.mencius_judge.proofs.promises.Logs.{commands-cons_known, known}
 
--- ---- beginnings of the longest history
+-- ---- prefixes of the longest history
 
--- the commands of a beginning are a beginning of the commands, where all of them are known
+-- if all identities have a command, the commands of a prefix are a prefix of the commands
 pub commands-take : (w : Log) (ids : List CommandId) (n : ℕ)
     → ((m : ℕ) (id : CommandId) → slice_get ids m ≡ Some id → is_some (command_of w id) ≡ true)
     → commands_of w (take n ids) ≡ take n (commands_of w ids)
@@ -121,7 +121,7 @@ floors_tell w r server floors new n h is updates = record {
 
 module _ (w : Log) (order : List CommandId) (counts : List ℕ) (commands : List Command) (histories : AreHistories w order counts)
     (facts : IsOrder w order) (listed : commands ≡ commands_of w order) where
-  -- a beginning of a history, by the commands of the longest one
+  -- the commands of a prefix of a history are a prefix of the longest history's commands
   view : (p n : ℕ) → n ≤ length (history w p) → commands_of w (take n (history w p)) ≡ take n commands
   view p n le =
       let size : length (history w p) ≤ get_or counts p 0 =

@@ -1,4 +1,4 @@
--- What a judge has seen keeps all promises, and so did each earlier log.
+-- The log that a judge has seen keeps all promises, and so does each earlier part of it.
 use Rattle.std.proofs.Common.{◌≡◌, ◌⊎◌, inl, inr, ℕ, zero, suc, ◌≤◌, Bool, true, false, cond, List, [], ◌∷◌, ◌++◌, ◌==◌, Option, Some, None, is_some, length, slice_get, take, refl, sym, subst, ap, ◌∙◌, ⊎_elim, append_assoc}
 use Rattle.std.specs.Prelude.{MatchBool, IsNone, ◌↔◌, max}
 use Rattle.mencius_base.specs.declared.command.CommandId.{CommandId}
@@ -47,7 +47,7 @@ holds w h RightLookup = h.right_lookup
 
 -- ---- one observation earlier
 
--- a history only grows
+-- a history is a prefix of the history after the next observation
 pub history_grows : (w : Log) (o : Observation) (p : ℕ) → IsPrefix (history w p) (history (o ∷ w) p)
 history_grows w (Submit c) p = prefix_self (history w p)
 history_grows w (Execute q id) p = by_test (q == p)
@@ -59,7 +59,7 @@ history_grows w (Reply id text) p = prefix_self (history w p)
 history_grows w (Lookup reader key text) p = prefix_self (history w p)
 history_grows w (Tell reader server) p = prefix_self (history w p)
 
--- what a history has was submitted
+-- each command of a history was submitted
 pub all_known : (w : Log) (p : ℕ) → WereSubmitted w → AreKnown w (history w p)
 all_known [] p h n id e = absurd (cc)
 all_known (Submit c ∷ w) p h n id e =
@@ -110,7 +110,7 @@ pub longer_split : {A : Type 0} (xs ys front back : List A) (x : A) → (h : IsP
     → ys ≡ front ++ x ∷ (back ++ h.0)
 longer_split xs ys front back x h e = sym h.1 ∙ ap (λ zs. zs ++ h.0) e ∙ append_assoc front (x ∷ back) h.0
 
--- of what was submitted, an observation changes neither the command nor the replies before it
+-- if a command was submitted, a further observation does not change it or the replies before it
 pub same_command : (w : Log) (o : Observation) (id : CommandId) → is_some (command_of w id) ≡ true
     → command_of (o ∷ w) id ≡ command_of w id
 same_command w (Submit c) id h = kept_command w c id h

@@ -1,4 +1,4 @@
--- What a log says with one more observation.
+-- The command and the first reply of an identity are in the log, and a further submission keeps a command.
 use Rattle.std.proofs.Common.{◌≡◌, ◌≢◌, ◌⊎◌, inl, inr, ℕ, zero, suc, ◌<◌, Bool, true, false, cond, List, [], ◌∷◌, ◌++◌, Option, Some, None, get_or, is_some, length, slice_get, arith, refl, sym, subst, ap, ◌∙◌}
 use Rattle.std.specs.Option.{option_or}
 use Rattle.std.specs.List.{Contains}
@@ -59,7 +59,7 @@ pub known : (o : Option Command) → is_some o ≡ true → (c : Command) × (o 
 known None e = absurd (cc)
 known (Some c) e = (c, refl)
 
--- what was submitted once is known from then on
+-- if an identity has a command, a further submission does not change that command
 pub kept_command : (w : Log) (c : Command) (id : CommandId) → is_some (command_of w id) ≡ true
     → command_of (Submit c ∷ w) id ≡ command_of w id
 kept_command w c id e = by_option (command_of w id) e
@@ -119,6 +119,7 @@ new_before w c id e = ap (λ o. cond (is_some o) (with_reply_before w id) (with_
 
 -- ---- the commands of identities
 
+-- each identity of the list has a submitted command
 abbrev pub AreKnown : Log → List CommandId → Type 0
 AreKnown w ids = (n : ℕ) (id : CommandId) → slice_get ids n ≡ Some id → is_some (command_of w id) ≡ true
 
@@ -181,7 +182,7 @@ reply_found (Lookup reader key text ∷ w) id x e =
 reply_found (Tell reader server ∷ w) id x e =
     contains_later (Tell reader server) w (Reply id x) (reply_found w id x e)
 
--- where no reply was found, there was none
+-- if the log contains a reply to a command, the command has a first reply
 pub reply_missing : (w : Log) (id : CommandId) (x : Option (List ℕ)) → Contains w (Reply id x)
     → is_some (reply_of w id) ≡ true
 reply_missing [] id x h = absurd (contains_none (Reply id x) h)

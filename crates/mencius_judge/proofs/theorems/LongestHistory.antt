@@ -13,7 +13,7 @@ use Rattle.mencius_judge.specs.Promises.{KeepsAll}
 use Rattle.mencius_judge.proofs.promises.Identities.{has-append, has_place, same_id_eq}
 use Rattle.mencius_judge.proofs.promises.Kept.{all_known}
 
--- where none of a list passes a test, no item does
+-- if no item of a list is counted, no item passes the test
 none_of_two : (d : Bool) (n : ℕ) → cond d 1 0 + n ≡ 0 → (d ≡ false) × (n ≡ 0)
 none_of_two true n e = absurd (omega (arith, e))
 none_of_two false n e = (refl, omega (arith, e))
@@ -28,7 +28,7 @@ none_passes {A = A} f (y ∷ xs) none zero x h =
 none_passes f (y ∷ xs) none (suc n) x h =
     none_passes f xs (none_of_two (f y) (count_by f xs) (sym (sum_by-cons (λ z. cond (f z) 1 0) y xs) ∙ none)).1 n x h
 
--- each command that has a reply is listed
+-- each command that has a reply is in the list of commands with a reply
 reply_listed : (w : Log) (id : CommandId) → is_some (reply_of w id) ≡ true → has_id (with_reply w) id ≡ true
 reply_listed [] id h = absurd (cc)
 reply_listed (Submit command ∷ w) id h = reply_listed w id h
@@ -60,7 +60,7 @@ reply_listed (Reply x text ∷ w) id h =
 reply_listed (Lookup reader key text ∷ w) id h = reply_listed w id h
 reply_listed (Tell reader server ∷ w) id h = reply_listed w id h
 
--- where no reply is open, each command that has one is executed
+-- if no reply is open, each command that has a reply is executed
 settled : (w : Log) (p : ℕ) → count_by (λ id. not (has_id (history w p) id)) (with_reply w) ≡ 0 → (id : CommandId)
     → is_some (reply_of w id) ≡ true → has_id (history w p) id ≡ true
 settled w p none id h =

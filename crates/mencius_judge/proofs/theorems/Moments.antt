@@ -1,4 +1,5 @@
--- The laws of logs that keep all promises.
+-- Histories of a log that keeps all promises are comparable at any moments, and later commands come after earlier
+-- histories.
 use Rattle.std.proofs.Common.{◌≡◌, inl, inr, ℕ, suc, true, List, [], ◌∷◌, ◌++◌, Some, is_some, slice_get, refl, sym, subst, ap, ⊎_elim}
 use Rattle.mencius_base.specs.declared.command.CommandId.{CommandId}
 use Rattle.mencius_model.specs.Executed.{IsComparable, IsPrefix}
@@ -24,7 +25,7 @@ moments_comparable later other v w h same p q =
     (subst (λ (u : Log). IsPrefix (history v q) (history u q)) (sym same) (history_later other v q))
     (h.same_order p q)
 
--- a list without an item that is comparable to one with it begins what stands before the item
+-- if a list is comparable to another one and lacks one of its items, the list is a prefix of the part before that item
 pub begins : (xs front back : List CommandId) (id : CommandId) → IsComparable xs (front ++ id ∷ back)
     → ((n : ℕ) → slice_get xs n ≡ Some id → ⊥) → IsPrefix xs front
 begins [] front back id either absent = (front, refl)

@@ -1,4 +1,5 @@
--- Logs in which each reply comes after an execution, at whose place it is right.
+-- If each reply of a log is right when it is given, the promises about replies and real time follow from other
+-- promises.
 use Rattle.std.proofs.Common.{◌≡◌, ◌⊎◌, inl, inr, ℕ, Bool, true, false, cond, List, [], ◌∷◌, ◌++◌, Option, Some, None, IsTrue, is_some, length, slice_get, take, rules, refl, sym, subst, ap, ◌∙◌, ⊎_elim}
 use Rattle.std.proofs.Math.Seq.{take-append_seam}
 use Rattle.std.specs.List.{Contains}
@@ -19,7 +20,7 @@ use Rattle.mencius_judge.proofs.promises.Logs.{contains_cons, contains_none}
 use Rattle.mencius_judge.proofs.theorems.Moments.{begins, history_later}
 use Rattle.mencius_judge.proofs.observations.OrderSteps.{front_known, item_here, item_known}
 
--- the reply is right at the end of some server's history
+-- some history ends in the command, and the reply is right there
 pub record IsRightNow (w : Log) (id : CommandId) (x : Option (List ℕ)) : Type 0 where
   pub server : ℕ
   pub front : List CommandId
@@ -28,6 +29,7 @@ pub record IsRightNow (w : Log) (id : CommandId) (x : Option (List ℕ)) : Type 
   pub there : command_of w id ≡ Some command
   pub is : x ≡ out (commands_of w front) command
 
+-- each reply was right at the end of some history when it was given
 abbrev pub WereRight : Log → Type 0
 WereRight [] = Unit {0}
 WereRight (Submit c ∷ w) = WereRight w
@@ -36,7 +38,7 @@ WereRight (Reply id x ∷ w) = IsRightNow w id x × WereRight w
 WereRight (Lookup r key x ∷ w) = WereRight w
 WereRight (Tell r p ∷ w) = WereRight w
 
--- the reply is right at some place of some server's history
+-- some history contains the command, and the reply is right at its place
 pub record IsRightAt (w : Log) (id : CommandId) (x : Option (List ℕ)) : Type 0 where
   pub server : ℕ
   pub front : List CommandId
@@ -180,7 +182,7 @@ with_reply_executed (Reply id x ∷ w) right y h =
     either true g = inr g
     either false g = or_cases (is_same_id id y) (has_id (with_reply w) y) (sym (has-append (with_reply w) id y) ∙ g)
 
--- when the command was first submitted, some server had executed the other one
+-- before the command `id` was first submitted, some server had executed the command `y`
 pub record IsEarly (w : Log) (id y : CommandId) : Type 0 where
   pub later : Log
   pub before : Log

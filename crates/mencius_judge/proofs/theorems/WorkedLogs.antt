@@ -1,4 +1,4 @@
--- Small logs, and what the definitions say of them: computed, not proved.
+-- The definitions have the expected values on small logs. These values are computed, not proved.
 use Rattle.std.proofs.Common.{◌≡◌, ℕ, List, [], ◌∷◌, Some, None, ap, arith, refl, ⊎_elim}
 use Rattle.std.specs.Prelude.{codes}
 use Rattle.mencius_base.specs.declared.command.Command.{Command}
@@ -15,7 +15,7 @@ id n = record { client = n; number = 0 }
 abbrev set_to : ℕ → List ℕ → Command
 set_to n text = record { id = id n; op = Set (codes "a") text }
 
--- the newest observation first: server 0 executes both commands, server 1 the second one first
+-- a log with the newest observation first. Server 0 executes both commands, and server 1 executes the second one first
 abbrev crossed_log : Log
 crossed_log =
     Execute 1 (id 2) ∷ Execute 0 (id 2) ∷ Execute 0 (id 1) ∷ Submit (set_to 2 (codes "y")) ∷ Reply (id 1) None
@@ -33,7 +33,7 @@ known_command = refl
 unknown_command : command_of crossed_log (id 3) ≡ None
 unknown_command = refl
 
--- the reply of the first command came before the second was submitted, and not before its own submission
+-- the reply to the first command came before the second one was submitted, but after its own submission
 second_behind : with_reply_before crossed_log (id 2) ≡ id 1 ∷ []
 second_behind = refl
 

@@ -1,4 +1,4 @@
--- All lines of an event are its server's.
+-- All lines of an event belong to the server of the event.
 use Rattle.std.proofs.Common.{◌≡◌, ℕ, ◌+◌, Bool, true, false, List, [], ◌∷◌, ◌++◌, Option, Some, None, cond, ltb, leb, map, filter, refl}
 use Rattle.std.specs.Prelude.{is_none, slice_get}
 use Rattle.mencius_base.specs.Numbers.{ServerId}
@@ -19,7 +19,7 @@ use Rattle.mencius_model.proofs.rights.EachLine.{AreAll, one_if}
 use Rattle.mencius_model.specs.Next.{head, lines, on_message, preparation, due_decision_at, due_proposal_at, server_of}
 use Rattle.mencius_model.proofs.trace.Parts.{is_newly_skipped, retry_lines, delivery}
 
--- whose line it is
+-- If the line is a sent message, a learning or a delivery, it belongs to server p. Any other line counts as p's.
 abbrev pub IsBy : ServerId → Line → Type 0
 IsBy p (Sent (Suggest from inst ticket)) = from ≡ p
 IsBy p (Sent (Skip from first stop)) = from ≡ p

@@ -1,4 +1,4 @@
--- What only grows: what a server learned and executed, and so its history.
+-- The learned values, the number of executed instances and the history of a server only grow.
 use Rattle.std.proofs.Common.{◌≡◌, ℕ, ◌≤◌, List, [], ◌∷◌, ◌++◌, sym, ◌∙◌, arith, Some}
 use Rattle.mencius_base.specs.declared.message.Value.{Value}
 use Rattle.mencius_base.specs.Members.{Membership}
@@ -10,13 +10,13 @@ use Rattle.mencius_model.proofs.rights.LineRights.{IsGrown, IsPast, past_grown}
 use Rattle.mencius_model.proofs.trace.AnswersLast.{learned_more}
 use Rattle.mencius_model.proofs.histories.Histories.{tickets_prefix, tickets_same, executed_learned}
 
--- what was learned stays
+-- A learned value stays.
 learned_past : (ls : List Line) (w : Trace) (p i : ℕ) (z : Value) → learned_value w p i ≡ Some z
     → learned_value (ls ++ w) p i ≡ Some z
 learned_past [] w p i z h = h
 learned_past (l ∷ ls) w p i z h = learned_more l (ls ++ w) p i z (learned_past ls w p i z h)
 
--- what was executed stays
+-- The number of executed instances does not fall.
 done_past : (ls : List Line) (w : Trace) (p : ℕ) → done w p ≤ done (ls ++ w) p
 done_past [] w p = omega arith
 done_past (l ∷ ls) w p = omega (arith, done_past ls w p)
@@ -28,7 +28,7 @@ learned_later w end past p i z h = rw past.is (learned_past past.since w p i z h
 done_later : (w end : Trace) → IsPast w end → (p : ℕ) → done w p ≤ done end p
 done_later w end past p = rw past.is (done_past past.since w p)
 
--- a server's history only grows
+-- The history of a server only grows.
 pub history_grows : (m : Membership) (w end : Trace) → IsPast w end → IsGrown m end → (p : ℕ)
     → IsPrefix (history w p) (history end p)
 history_grows m w end past grown p =

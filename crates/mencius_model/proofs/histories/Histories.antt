@@ -1,4 +1,4 @@
--- Histories: of any two one is a prefix of the other, each command stands once, and later commands stand later.
+-- One of two histories is a prefix of the other, each command appears once, and later commands come later.
 use Rattle.std.proofs.Common.{◌≡◌, ℕ, zero, suc, ◌+◌, ◌<◌, ◌≤◌, eqb, List, [], ◌∷◌, ◌++◌, length, ◌⊎◌, inl, inr, refl, sym, ap, ◌∙◌, arith, Option, Some, None, slice_get, append-nil, append_assoc, eqb-true, filter_map}
 use Rattle.std.specs.List.{cons_option}
 use Rattle.std.proofs.lemmas.Bool.{cases_lt, cases_Bool}
@@ -18,9 +18,9 @@ use Rattle.mencius_model.proofs.trace.AnswersLast.{learned_more}
 use Rattle.mencius_model.proofs.paxos.Decisions.{learned_decided, decided_past, agreement}
 use Rattle.mencius_model.proofs.paxos.Tickets.{decided_once, decided_submitted, get_push}
 
--- ---- what was executed was learned
+-- ---- executed instances were learned
 
--- a line is an execution by s, or leaves its count
+-- A line is an execution by p and adds 1 to its count, or it adds 0.
 executed_line : (p : ℕ) (l : Line) → (done_by p l ≡ 0) ⊎ ((done_by p l ≡ 1) × (l ≡ Executed p))
 executed_line p (Executed server) =
     elim (cases_Bool (eqb server p)) [
@@ -29,7 +29,7 @@ executed_line p (Executed server) =
     ]
 executed_line p _ = inl refl
 
--- an instance that s executed it had learned
+-- A server has learned each instance that it executed.
 pub executed_learned : (m : Membership) (w : Trace) → IsGrown m w → (p i : ℕ) → i < done w p
     → (x : Value) × (learned_value w p i ≡ Some x)
 executed_learned m [] grown p i lt = absurd (omega arith)
@@ -48,11 +48,11 @@ executed_learned m (l ∷ w) grown p i lt =
 
 -- ---- tickets of the first n instances, over plain functions
 
--- f is what a server learned at each instance
+-- The tickets among the values that f gives for the first n instances.
 abbrev pub tickets : (ℕ → Option Value) → ℕ → List ℕ
 tickets f n = filter_map (λ i. ticket_of (f i)) (numbers_below n)
 
--- one more instance adds at most one ticket, at the end
+-- Another instance adds at most one ticket, at the end.
 tickets_more : (f : ℕ → Option Value) (n : ℕ)
     → tickets f (suc n) ≡ tickets f n ++ filter_map (λ i. ticket_of (f i)) (n ∷ [])
 tickets_more f n =
@@ -60,7 +60,7 @@ tickets_more f n =
       below_suc : numbers_below (suc n) ≡ numbers_below n ++ n ∷ []
       below_suc = let e : suc n ≡ n + 1 = omega arith in ap numbers_below e ∙ below-more n
 
--- who learned the same executes the same
+-- If two functions agree on the first n instances, they give the same tickets.
 pub tickets_same : (f g : ℕ → Option Value) (n : ℕ) → ((i : ℕ) → i < n → f i ≡ g i) → tickets f n ≡ tickets g n
 unfolding numbers_below
 tickets_same f g zero h = refl
@@ -68,7 +68,7 @@ tickets_same f g (suc n) h =
     let last = h n (omega arith) in
     rw (tickets_more f n, tickets_more g n, tickets_same f g n (λ i lt. h i (omega arith)), last)
 
--- who executes fewer instances has a prefix
+-- The tickets of fewer instances are a prefix of the tickets of more instances.
 pub tickets_prefix : (f : ℕ → Option Value) (n m : ℕ) → n ≤ m → IsPrefix (tickets f n) (tickets f m)
 unfolding numbers_below
 tickets_prefix f n zero le = let e : n ≡ 0 = omega arith in rw e ([], refl)
@@ -83,7 +83,7 @@ tickets_prefix f n (suc m) le =
       | inr ge ↦ let e : n ≡ suc m = omega (arith, ge, le) in rw e ([], append-nil (tickets f (suc m)))
     ]
 
--- who agree where both learned have comparable lists
+-- If f and g agree on all instances that both lists cover, one list is a prefix of the other.
 comparable : (f g : ℕ → Option Value) (n m : ℕ) → ((i : ℕ) → i < n → i < m → f i ≡ g i)
     → IsComparable (tickets f n) (tickets g m)
 comparable f g n m h =
@@ -92,7 +92,7 @@ comparable f g n m h =
       | inr ge ↦ inr (rw (sym (tickets_same f g m (λ i a. h i (omega arith) a))) (tickets_prefix f m n ge))
     ]
 
--- a ticket in the list was learned at some instance
+-- A ticket in the list was learned at one of the instances.
 ticket_in : (o : Option Value) (t : ℕ) → IsIn t (cons_option (ticket_of o) []) → o ≡ Some (Ticket t)
 ticket_in None t h = absurd h
 ticket_in (Some Noop) t h = absurd h
@@ -108,11 +108,11 @@ in_tickets f (suc n) t h =
       | inr a ↦ (n, omega arith, ticket_in (f n) t a)
     ]
 
--- no number stands at two places
+-- No number appears at two places.
 abbrev pub IsOnce : List ℕ → Type 0
 IsOnce xs = (n m t : ℕ) → slice_get xs n ≡ Some t → slice_get xs m ≡ Some t → n ≡ m
 
--- an item that is new at the end leaves each at one place
+-- If an item that is not in the list is added at the end, still no item appears at two places.
 once_push : (xs : List ℕ) (x : ℕ) → IsOnce xs → (IsIn x xs → ⊥) → IsOnce (xs ++ x ∷ [])
 once_push xs x h new n m t e z =
     elim (get_push xs x t n e) [
@@ -132,7 +132,7 @@ once_more xs None h new = rw append-nil h
 once_more xs (Some Noop) h new = rw append-nil h
 once_more xs (Some (Ticket t)) h new = once_push xs t h (new t refl)
 
--- where no ticket is learned at two instances, none stands twice
+-- If no ticket is learned at two instances, no ticket appears twice in the list.
 tickets_once : (f : ℕ → Option Value) (n : ℕ) → ((i o t : ℕ) → f i ≡ Some (Ticket t) → f o ≡ Some (Ticket t) → i ≡ o)
     → IsOnce (tickets f n)
 unfolding numbers_below
@@ -142,14 +142,15 @@ tickets_once f (suc n) h =
     (once_more (tickets f n) (f n) (tickets_once f n h)
     (λ t e a. let r = in_tickets f n t a in let same = h r.0 n t r.2 e in omega (arith, r.1, same)))
 
--- ---- a list that lacks t is a prefix of what stands before t
+-- ---- a list without t is a prefix of the part before t
 
--- comparable lists that have a first item have the same one
+-- If one of two lists that are not empty is a prefix of the other, their first items are equal.
 heads : (x y : ℕ) (xs ys : List ℕ) → IsComparable (x ∷ xs) (y ∷ ys) → (x ≡ y) × IsComparable xs ys
 heads x y xs ys (inl h) = let e = h.1 in (cc, inl (h.0, cc))
 heads x y xs ys (inr h) = let e = h.1 in (cc, inr (h.0, cc))
 
--- of comparable lists the one without t is a prefix of the part before t
+-- Take two lists, one of them a prefix of the other. If only the second list contains t, the first list is a prefix of
+-- the part of the second list before t.
 pub begins_before : (xs front back : List ℕ) (t : ℕ) → IsComparable xs (front ++ t ∷ back) → (IsIn t xs → ⊥)
     → IsPrefix xs front
 begins_before [] front back t comparable new = (front, refl)
@@ -159,23 +160,23 @@ begins_before (x ∷ xs) (a ∷ front) back t comparable new =
     let r = begins_before xs front back t h.1 (λ behind. new (inr behind)) in
     (r.0, let e = r.1 in let so = h.0 in cc)
 
--- ---- the theorems, over histories of one course
+-- ---- the theorems, for histories of one journal
 
 module _ (m : Membership) (few : 1 ≤ m.count) (end : Trace) (g : IsGrown m end) where
-  -- what was learned at a moment is decided in the end
+  -- A value that was learned at a moment is decided at the end.
   learned_end : (w : Trace) → IsPast w end → (p i : ℕ) (z : Value) → learned_value w p i ≡ Some z → IsDecided m end i z
   learned_end w past p i z h =
       let d = learned_decided m w (past_grown m w end past g) p i z h in
       rw past.is (decided_past m past.since w i z d)
 
-  -- two values decided at two moments are decided in the end, and there they agree
+  -- Values that are decided at two moments are both decided at the end, so they are equal.
   pub one_value : (w v : Trace) → IsPast w end → IsPast v end → (i : ℕ) (z x : Value) → IsDecided m w i z
       → IsDecided m v i x → z ≡ x
   one_value w v a past i z x h decided =
       agreement m end few g i z x (rw a.is (decided_past m a.since w i z h))
       (rw past.is (decided_past m past.since v i x decided))
 
-  -- two servers that executed an instance learned the same there
+  -- Two servers that executed an instance learned the same value there, so their histories agree.
   pub histories_comparable : (w v : Trace) → IsPast w end → IsPast v end → (p q : ℕ)
       → IsComparable (history w p) (history v q)
   histories_comparable w v a past p q =
@@ -187,20 +188,20 @@ module _ (m : Membership) (few : 1 ≤ m.count) (end : Trace) (g : IsGrown m end
       x.1 ∙ (ap Some e ∙ sym y.1))
 
 module _ (m : Membership) (few : 1 ≤ m.count) (w : Trace) (g : IsGrown m w) where
-  -- each ticket was submitted
+  -- Each ticket in a history was submitted.
   pub history_submitted : (p t : ℕ) → IsIn t (history w p) → t < length (submitted_commands w)
   history_submitted p t h =
       let r = in_tickets (learned_value w p) (done w p) t h in
       decided_submitted m w g r.0 t (learned_decided m w g p r.0 (Ticket t) r.2)
 
-  -- and stands once, since it is decided at one instance
+  -- Each ticket appears at most once in a history, because it is decided at only one instance.
   pub history_once : (p : ℕ) → IsOnce (history w p)
   history_once p =
       tickets_once (learned_value w p) (done w p)
       (λ i j t h told. decided_once m w few g i j t (learned_decided m w g p i (Ticket t) h)
       (learned_decided m w g p j (Ticket t) told))
 
--- what is submitted after a history was executed stands behind all of it
+-- If a command is submitted after a server had a history, it comes after that whole history.
 pub order : (m : Membership) → 1 ≤ m.count → (w end : Trace) → IsPast w end → IsGrown m end
     → (p q t : ℕ) (front back : List ℕ)
     → length (submitted_commands w) ≤ t → history end q ≡ front ++ t ∷ back → IsPrefix (history w p) front

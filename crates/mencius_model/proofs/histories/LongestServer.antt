@@ -1,4 +1,4 @@
--- The longest history, and the least server that has it.
+-- The longest history, and the lowest server that has it.
 use Rattle.std.proofs.Common.{◌≡◌, ℕ, zero, suc, ◌+◌, ◌-◌, ◌<◌, ◌≤◌, cond, ltb, ltb-true, ltb-false, fold, inl, inr, refl, sym, ap, subst, ◌∙◌, arith, [], ◌∷◌, length}
 use Rattle.std.proofs.lemmas.Bool.{cases_Bool, cases_lt, le-ltb, lt-ltb}
 use Rattle.std.proofs.lemmas.List.Sums.{fold-append}
@@ -10,7 +10,7 @@ use Rattle.mencius_model.specs.Replying.{longest_at}
 use Rattle.mencius_model.specs.Executed.{history}
 use Rattle.mencius_model.proofs.trace.Parts.{longest_below}
 
--- p is the first of the n numbers where f is greatest
+-- Among the first n numbers, p is the lowest that has the greatest value of f.
 pub record IsFurthest (f : ServerId → ℕ) (n : ℕ) (p : ServerId) : Type 0 where
   pub member : p ≤ n - 1
   pub longest : (q : ServerId) → q < n → f q ≤ f p
@@ -55,7 +55,7 @@ furthest f (suc n) =
     subst (λ y. IsFurthest f y (fold (further f) 0 (numbers_below y))) (sym next)
     (subst (IsFurthest f (n + 1)) (sym more) (one_further f n (fold (further f) 0 (numbers_below n)) (furthest f n)))
 
--- a further server
+-- The longest history among p + 1 servers is found from the longest among the first p servers and from server p.
 pub longest-more : (w : Trace) (p : ℕ)
     → fold (longest_below w) 0 (numbers_below (p + 1)) ≡ longest_below w (fold (longest_below w) 0 (numbers_below p)) p
 longest-more w p = ap (fold (longest_below w) 0) (below-more p) ∙ fold-append (longest_below w) 0 (numbers_below p) (p ∷ [])

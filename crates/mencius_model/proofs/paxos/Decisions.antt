@@ -1,4 +1,4 @@
--- Decisions last, what is learned is decided, and two decided values of one instance are equal.
+-- Decisions last, each learned value is decided, and two decided values of one instance are equal.
 use Rattle.std.proofs.Common.{◌≡◌, ℕ, ◌<◌, ◌≤◌, true, ◌&&◌, List, [], ◌∷◌, ◌++◌, inl, inr, refl, sym, ◌∙◌, Some, eqb, leb, ltb, eqb-true, leb-true, ltb-true}
 use Rattle.std.proofs.lemmas.Bool.{cases_order, and_parts}
 use Rattle.mencius_base.specs.Numbers.{ServerId, Inst}
@@ -17,7 +17,7 @@ use Rattle.mencius_model.proofs.trace.AnswersLast.{proposed_more, acceptance_mor
 use Rattle.mencius_model.proofs.paxos.Paxos.{chosen_above, origin}
 use Rattle.mencius_model.proofs.reached.Suggesters.{skip_free}
 
--- a Skip of i's owner that covers i
+-- The owner of i sent a Skip that covers i.
 pub record SkipOf (m : Membership) (w : Trace) (i : Inst) : Type 0 where
   pub first : Inst
   pub stop : Inst
@@ -25,7 +25,7 @@ pub record SkipOf (m : Membership) (w : Trace) (i : Inst) : Type 0 where
   pub from : first ≤ i
   pub to : i < stop
 
--- a message that gives i up is such a Skip
+-- Each message that gives i up is a Skip by the owner of i that covers i.
 skip_message : (m : Membership) (w : Trace) (i : ℕ) (x : Message) → IsIn (Sent x) w → is_skipped_by m i x ≡ true
     → SkipOf m w i
 skip_message m w i (Skip from first stop) h e =
@@ -35,19 +35,19 @@ skip_message m w i (Skip from first stop) h e =
     record { first = first; stop = stop; skip = rw same at h; from = leb-true first i s.1; to = ltb-true i stop r.1 }
 skip_message m w i _ h e = absurd (cc)
 
--- where i is skipped, there is one
+-- If i is skipped, the owner of i sent a Skip that covers i.
 skip_of : (m : Membership) (w : Trace) (i : ℕ) → IsSkipped m w i → SkipOf m w i
 skip_of m w i h =
     let r = any_in (is_skipped_by m i) (sent_messages w) h in
     skip_message m w i r.0 (sent_in r.0 w r.1) r.2
 
--- a later line leaves what is skipped
+-- A skipped instance stays skipped after another line.
 skipped_more : (m : Membership) (l : Line) (w : Trace) (i : ℕ) → IsSkipped m w i → IsSkipped m (l ∷ w) i
 skipped_more m l w i h =
     let r = any_in (is_skipped_by m i) (sent_messages w) h in
     in_any (is_skipped_by m i) r.0 (sent_messages (l ∷ w)) (in_sent r.0 (l ∷ w) (inr (sent_in r.0 w r.1))) r.2
 
--- a later line leaves what is decided
+-- A decided value stays decided after another line.
 pub decided_more : (m : Membership) (l : Line) (w : Trace) (i : ℕ) (z : Value) → IsDecided m w i z
     → IsDecided m (l ∷ w) i z
 decided_more m l w i z (inl left) =
@@ -58,13 +58,13 @@ decided_more m l w i z (inl left) =
     )
 decided_more m l w i z (inr s) = inr (skipped_more m l w i s.0, s.1)
 
--- and so do all later lines
+-- A decided value stays decided after any number of lines.
 pub decided_past : (m : Membership) (ls : List Line) (w : Trace) (i : ℕ) (z : Value) → IsDecided m w i z
     → IsDecided m (ls ++ w) i z
 decided_past m [] w i z h = h
 decided_past m (l ∷ ls) w i z h = decided_more m l (ls ++ w) i z (decided_past m ls w i z h)
 
--- where a Skip covers i, every proposal at i is no-op
+-- If i is skipped, every proposal at i is no-op.
 pub skipped_noop : (m : Membership) (w : Trace) → 1 ≤ m.count → IsGrown m w → (i b : ℕ) (x : Value)
     → IsSkipped m w i → proposal w i b ≡ Some x → x ≡ Noop
 skipped_noop m w few grown i b x h e =
@@ -76,7 +76,7 @@ skipped_noop m w few grown i b x h e =
           absurd (skip_free m w few grown (owner m i) so.first so.stop r.0 i r.1 refl so.from so.to so.skip r.2)
     ]
 
--- decided values agree, in one trace
+-- In one trace, two decided values of an instance are equal.
 pub agreement : (m : Membership) (w : Trace) → 1 ≤ m.count → IsGrown m w → (i : ℕ) (z x : Value)
     → IsDecided m w i z → IsDecided m w i x → z ≡ x
 agreement m w few grown i z x (inl left) (inl d) =
@@ -91,7 +91,7 @@ agreement m w few grown i z x (inl left) (inr s) = skipped_noop m w few grown i 
 agreement m w few grown i z x (inr s) (inl left) = s.1 ∙ sym (skipped_noop m w few grown i left.0 x s.0 left.1)
 agreement m w few grown i z x (inr s) (inr r) = s.1 ∙ sym r.1
 
--- what was learned, and what a Learn message tells, is decided
+-- Each value that a server learned is decided, and so is each value in a Learn message.
 pub record AreDecided (m : Membership) (w : Trace) : Type 0 where
   pub lines : (p : ServerId) (i : Inst) (z : Value) → IsIn (Learned p i z) w → IsDecided m w i z
   pub messages : (p : ServerId) (i : Inst) (z : Value) → IsIn (Sent (Learn p i z)) w → IsDecided m w i z
@@ -117,7 +117,7 @@ all_decided m (l ∷ w) grown =
           ];
     }
 
--- every learned value is decided
+-- Every learned value is decided.
 pub learned_decided : (m : Membership) (w : Trace) → IsGrown m w → (p i : ℕ) (z : Value) → learned_value w p i ≡ Some z
     → IsDecided m w i z
 learned_decided m w grown p i z h = (all_decided m w grown).lines p i z (learned_in w p i z h)

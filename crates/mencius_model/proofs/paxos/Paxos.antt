@@ -1,5 +1,5 @@
--- One instance of Paxos, in any trace that grew line by line: what a promise rules out, why a proposal is
--- safe, and that a chosen value is proposed at every greater ballot.
+-- If a value is chosen at an instance, every proposal at a greater ballot has that value, in any trace that grew line
+-- by line. The file first shows the bounds that a promise sets, and why a proposal is safe.
 use Rattle.std.proofs.Common.{◌≡◌, ℕ, zero, suc, ◌<◌, ◌≤◌, Bool, true, [], ◌∷◌, ◌⊎◌, inl, inr, refl, ◌∙◌, arith, Option, Some, None}
 use Rattle.std.specs.Option.{option_map_or}
 use Rattle.std.proofs.lemmas.Bool.{cases_lt}
@@ -15,18 +15,19 @@ use Rattle.mencius_model.proofs.trace.Lists.{IsIn, majorities_meet}
 use Rattle.mencius_model.proofs.rights.LineRights.{May, IsGrown, MayAccept, MayPromise, MayPropose, Reaches}
 use Rattle.mencius_model.proofs.trace.AnswersLast.{promise_within, acceptance_within, promised_more, accepted_above, accepted_in, proposed_more, proposal_in, acceptance_in}
 
--- the vote was proposed, below the ballot
+-- If there is a vote, its ballot is below b and its value was proposed at that ballot.
 abbrev pub IsBacked : Trace → Inst → BallotNo → Option Vote → Type 0
 IsBacked w i b None = Unit {0}
 IsBacked w i b (Some x) = (x.ballot < b) × (proposal w i x.ballot ≡ Some x.value)
 
--- a promise by q at (i, b) with this vote: whatever q accepted below b, the vote's ballot is none of the lesser
+-- q keeps its promise of ballot b of i with the vote `o`. The vote's ballot is at least each ballot below b that q
+-- accepted. The vote, if there is one, was proposed at a ballot below b.
 pub record IsPromiseKept (w : Trace) (q : ServerId) (i : Inst) (b : BallotNo) (o : Option Vote) : Type 0 where
   pub covers : (to : ServerId) (c : BallotNo) → IsIn (Sent (Accepted q to i c)) w → c < b → Reaches o c
   pub backed : IsBacked w i b o
 
--- a proposal of v at (i, b): a majority accepts nothing below b any more, and v is the value of the greatest
--- vote of theirs, or no-op where they have none
+-- A proposal of z at ballot b of i is safe. A majority has promised b or more, so it accepts nothing below b any more.
+-- z is the value of the greatest vote of this majority, or no-op if it has no vote.
 pub record IsSafe (m : Membership) (w : Trace) (i : Inst) (b : BallotNo) (z : Value) : Type 0 where
   pub among : ServerId → Bool
   pub majority : are_majority m among ≡ true
@@ -46,14 +47,14 @@ backed_from : (w : Trace) (i b : ℕ) (h : Option Vote) → ((z : Vote) → h �
 backed_from w i b None each = tt
 backed_from w i b (Some z) each = each z refl
 
--- a vote that covers a ballot is covered by each vote that is not less
+-- If a vote covers ballot c and a second vote covers the first, the second vote covers c.
 reaches_through : (o h : Option Vote) (c : ℕ) → Reaches o c → ((y : Vote) → o ≡ Some y → Reaches h y.ballot)
     → Reaches h c
 reaches_through None h c r each = absurd r
 reaches_through (Some y) None c r each = each y refl
 reaches_through (Some y) (Some x) c r each = let below : y.ballot ≤ x.ballot = each y refl in omega (arith, r)
 
--- what is accepted was proposed
+-- A value was proposed at each ballot that was accepted.
 pub accepted_proposed : (m : Membership) (w : Trace) → IsGrown m w → (q to i b : ℕ)
     → IsIn (Sent (Accepted q to i b)) w → (z : Value) × (proposal w i b ≡ Some z)
 accepted_proposed m [] grown q to i b h = absurd h
@@ -64,7 +65,7 @@ accepted_proposed m (l ∷ w) grown q to i b (inr h) =
     let r = accepted_proposed m w grown.0 q to i b h in
     (r.0, proposed_more l w i b r.0 r.1)
 
--- the vote of a new promise
+-- A server that reports its vote in a new promise keeps that promise.
 vote_kept : (m : Membership) (w : Trace) → IsGrown m w → (q i b : ℕ) (o : Option ℕ) → accepted_ballot w q i ≡ o
     → promised_ballot w q i < b → IsPromiseKept w q i b (vote w q i)
 vote_kept m w grown q i b None e a =
@@ -85,7 +86,7 @@ vote_kept m w grown q i b (Some last) e a =
       backed = rw (e, said.1) (omega (arith, within, a), said.1);
     }
 
--- nothing is accepted below a promise, but what its vote covers
+-- The vote in a promise covers each ballot below the promised ballot that the sender accepted at any time.
 pub promise_covers : (m : Membership) (w : Trace) → IsGrown m w → (q to i b : ℕ) (o : Option Vote)
     → IsIn (Sent (Promise q to i b o)) w → IsPromiseKept w q i b o
 promise_covers m [] grown q to i b o h = absurd h
@@ -109,7 +110,7 @@ promise_covers m (l ∷ w) grown q to i b o (inr h) =
       backed = backed_more l w i b o covered.backed;
     }
 
--- and stays safe
+-- A safe proposal stays safe after another line.
 safe_more : (m : Membership) (l : Line) (w : Trace) (i b : ℕ) (z : Value) → May m w l → IsSafe m w i b z
     → IsSafe m (l ∷ w) i b z
 safe_more m l w i b z may s =
@@ -128,7 +129,7 @@ safe_more m l w i b z may s =
       is = s.is;
     }
 
--- a proposal is safe when it is made
+-- A proposal is safe when it is made.
 safe_at : (m : Membership) (w : Trace) (p i b : ℕ) (z : Value) → IsGrown m w → MayPropose m w p i b z
     → IsSafe m w i b z
 safe_at m w p i b z grown may =
@@ -148,7 +149,7 @@ safe_at m w p i b z grown may =
       is = may.is;
     }
 
--- every proposal is safe by a majority
+-- Every Propose of the trace is safe.
 pub propose_safe : (m : Membership) (w : Trace) → IsGrown m w → (p i b : ℕ) (z : Value)
     → IsIn (Sent (Propose p i b z)) w → IsSafe m w i b z
 propose_safe m [] grown p i b z h = absurd h
@@ -161,7 +162,7 @@ proposal_safe : (m : Membership) (w : Trace) → IsGrown m w → (i b : ℕ) (z 
     → proposal w i b ≡ Some z → IsSafe m w i b z
 proposal_safe m w grown i b z pos h = let r = proposal_in w i b z pos h in propose_safe m w grown r.0 i b z r.1
 
--- where v was chosen at ballot c: every proposal at a greater ballot has v
+-- If z was chosen at ballot c, every proposal at a greater ballot has the value z.
 module _ (m : Membership) (w : Trace) (g : IsGrown m w) (i c : ℕ) (z : Value) (start : proposal w i c ≡ Some z)
     (chosen : are_majority m (has_accepted w i c) ≡ true) where
   above : (b : ℕ) (x : Value) (h : Option Vote) → Reaches h c → IsBacked w i b h → x ≡ option_map_or (λ x. x.value) h Noop
@@ -202,6 +203,6 @@ module _ (m : Membership) (w : Trace) (g : IsGrown m w) (i : ℕ) where
         | inr z ↦ origin_below n b x (omega arith) h
       ]
 
-  -- every proposal is no-op or what was suggested
+  -- Every proposal is no-op or the suggested ticket.
   pub origin : (b : ℕ) (x : Value) → proposal w i b ≡ Some x → (x ≡ Noop) ⊎ (proposal w i 0 ≡ Some x)
   origin b x h = origin_below b b x (omega arith) h

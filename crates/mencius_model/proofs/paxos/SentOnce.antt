@@ -20,17 +20,17 @@ use Rattle.mencius_model.proofs.trace.AnswersLast.{sent_in}
 abbrev bit : (Message → Bool) → Message → ℕ
 bit test x = cond (test x) 1 0
 
--- whether a message is a Suggest at instance i
+-- Whether the message is a Suggest at instance i.
 abbrev pub is_suggestion_at : Inst → Message → Bool
 is_suggestion_at i (Suggest from inst ticket) = inst == i
 is_suggestion_at i _ = false
 
--- whether a message is a Propose at ballot b of instance i
+-- Whether the message is a Propose at ballot b of instance i.
 abbrev is_proposal_at : Inst → BallotNo → Message → Bool
 is_proposal_at i b (Propose from inst ballot value) = inst == i && ballot == b
 is_proposal_at i b _ = false
 
--- where none passes there is none to count
+-- If no message of a list passes a test, the count is 0.
 none_counted : (test : Message → Bool) (xs : List Message) → ((x : Message) → IsIn x xs → test x ≡ true → ⊥)
     → count_by test xs ≤ 0
 none_counted test [] never = omega arith
@@ -47,7 +47,7 @@ one_more : (test : Message → Bool) (x : Message) (xs : List Message)
     → count_by test (xs ++ x ∷ []) ≡ count_by test xs + bit test x
 one_more test x xs = let e = sum_by-append (bit test) xs (x ∷ []) in omega (arith, e, sum_by-cons (bit test) x [])
 
--- what may come only where none came before came at most once
+-- If a message that passes a test may be sent only when none was sent before, at most one is ever sent.
 module _ (m : Membership) (test : Message → Bool) (first : (w : Trace) (x : Message) → IsGrown m (Sent x ∷ w)
     → test x ≡ true → (y : Message) → IsIn (Sent y) w → test y ≡ true → ⊥) where
   once_sent : (w : Trace) (x : Message) → IsGrown m (Sent x ∷ w) → count_by test (sent_messages w) ≤ 1
@@ -112,22 +112,22 @@ no_line : (m : Membership) (w : Trace) (r : IsReached m w) (test : Message → B
 no_line m w r test some [] e = rw e (omega arith)
 no_line m w r test some (l ∷ v) e = some (some_server_of m w r l (subst (IsIn l) (sym e) (inl refl)))
 
--- an instance has at most one Suggest
+-- An instance has at most one Suggest.
 pub suggestions_few : (m : Membership) (w : Trace) → IsReached m w → (i : ℕ)
     → count_by (is_suggestion_at i) (sent_messages w) ≤ 1
 suggestions_few m w r i =
     no_line m w r (is_suggestion_at i)
     (λ some. once m (is_suggestion_at i) (suggestion_first m i some) w (reached_grown m w r)) w refl
 
--- an instance has at most one Propose at a ballot
+-- An instance has at most one Propose at a ballot.
 proposals_few : (m : Membership) (w : Trace) → IsReached m w → (i b : ℕ)
     → count_by (is_proposal_at i b) (sent_messages w) ≤ 1
 proposals_few m w r i b = once m (is_proposal_at i b) (proposal_first m i b) w (reached_grown m w r)
 
--- ---- where at most one passes, it has one place
+-- ---- if at most one message passes, it has one place
 
 module _ (test : Message → Bool) where
-  -- there is one to count where one passes
+  -- If a message of the list passes, the count is at least 1.
   some_counted : (xs : List Message) (k : ℕ) (x : Message) → slice_get xs k ≡ Some x → test x ≡ true
       → 1 ≤ count_by test xs
   some_counted [] k x there passes = absurd (cc)
@@ -140,7 +140,7 @@ module _ (test : Message → Bool) where
       let split : count_by test (y ∷ xs) ≡ bit test y + count_by test xs = sum_by-cons (bit test) y xs in
       omega (arith, split, some_counted xs k x there passes)
 
-  -- where one passes at the front, and at most one does, none passes behind it
+  -- If the first message of a list passes and at most one message passes, no later message passes.
   alone : (y : Message) (xs : List Message) (k : ℕ) (x z : Message) → count_by test (y ∷ xs) ≤ 1 → y ≡ z
       → test z ≡ true → slice_get xs k ≡ Some x → test x ≡ true → ⊥
   alone y xs k x z few same first there passes =

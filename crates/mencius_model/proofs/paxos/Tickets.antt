@@ -1,4 +1,4 @@
--- A ticket was submitted, is suggested by one server alone and decided at one instance: where it was suggested
+-- A decided ticket was submitted, only one server suggests it, and it is decided at one instance. If it was suggested
 -- twice, no-op is decided at the lower instance.
 use Rattle.std.proofs.Common.{◌≡◌, ℕ, zero, suc, subst, ◌<◌, ◌≤◌, true, false, eqb, List, [], ◌∷◌, ◌++◌, length, ◌⊎◌, inl, inr, refl, sym, ap, ◌∙◌, arith, Option, Some, None, slice_get, append-nil, length-append, eqb-true, eq-eqb}
 use Rattle.std.specs.Prelude.{option_to_list}
@@ -20,18 +20,18 @@ use Rattle.mencius_model.proofs.reached.Suggesters.{suggest_front}
 use Rattle.mencius_model.proofs.paxos.Paxos.{origin}
 use Rattle.mencius_model.proofs.paxos.Decisions.{decided_more, all_decided, agreement}
 
--- no line takes a submission back
+-- No line removes a submission.
 submitted_more : (l : Line) (w : Trace) → length (submitted_commands w) ≤ length (submitted_commands (l ∷ w))
 submitted_more l w = omega (arith, length-append (submitted_commands w) (option_to_list (command_in l)))
 
--- the ticket of the command that was just submitted is the last
+-- The ticket of a command that was just submitted is below the number of submitted commands.
 fresh_last : (w : Trace) (t : ℕ) → IsFresh w t → t < length (submitted_commands w)
 fresh_last [] t h = absurd h
 fresh_last (Submitted command p ∷ w) t h = omega (arith, h, length_push (submitted_commands w) (command, p))
 fresh_last (_ ∷ w) t h = absurd h
 
 module _ (m : Membership) where
-  -- a suggested ticket was submitted
+  -- A suggested ticket was submitted.
   pub ticket_submitted : (w : Trace) → IsGrown m w → (p i t : ℕ) → IsIn (Sent (Suggest p i t)) w
       → t < length (submitted_commands w)
   ticket_submitted [] grown p i t h = absurd h
@@ -44,7 +44,7 @@ module _ (m : Membership) where
       ]
   ticket_submitted (l ∷ w) grown p i t (inr h) = omega (arith, ticket_submitted w grown.0 p i t h, submitted_more l w)
 
-  -- it was not suggested before
+  -- The ticket of a command that was just submitted has not been suggested.
   fresh_new : (w : Trace) → IsGrown m w → (p i t : ℕ) → IsFresh w t → IsIn (Sent (Suggest p i t)) w → ⊥
   fresh_new [] grown p i t fresh h = fresh
   fresh_new (Submitted command q ∷ w) grown p i t fresh (inl e) = absurd (cc)
@@ -52,7 +52,7 @@ module _ (m : Membership) where
       absurd (omega (arith, fresh, ticket_submitted w grown.0 p i t h))
   fresh_new (_ ∷ w) grown p i t fresh h = fresh
 
-  -- only one server suggests a ticket
+  -- Only one server suggests a ticket.
   same_home : (w : Trace) → IsGrown m w → (p q i j t : ℕ) → IsIn (Sent (Suggest p i t)) w
       → IsIn (Sent (Suggest q j t)) w → p ≡ q
   same_home [] grown p q i j t h also = absurd h
@@ -71,7 +71,7 @@ module _ (m : Membership) where
       ]
   same_home (l ∷ w) grown p q i j t (inr h) (inr also) = same_home w grown.0 p q i j t h also
 
-  -- a ticket that was suggested twice lost the first time
+  -- If a ticket was suggested twice, it lost the first time.
   pub suggested_twice : (w : Trace) → 1 ≤ m.count → IsGrown m w → (p q i j t : ℕ) → i < j
       → IsIn (Sent (Suggest p i t)) w → IsIn (Sent (Suggest q j t)) w → IsDecided m w i Noop
   suggested_twice [] few grown p q i j t lt h also = absurd h
@@ -103,7 +103,7 @@ module _ (m : Membership) where
   suggested_twice (l ∷ w) few grown p q i j t lt (inr h) (inr also) =
       decided_more m l w i Noop (suggested_twice w few grown.0 p q i j t lt h also)
 
-  -- a decided ticket was suggested there
+  -- A ticket that is decided at an instance was suggested at that instance.
   decided_suggested : (w : Trace) → IsGrown m w → (i t : ℕ) → IsDecided m w i (Ticket t)
       → (p : ℕ) × IsIn (Sent (Suggest p i t)) w
   decided_suggested w grown i t (inl command) =
@@ -116,12 +116,12 @@ module _ (m : Membership) where
       ]
   decided_suggested w grown i t (inr s) = let e = s.1 in absurd (cc)
 
-  -- and so it was submitted
+  -- A decided ticket was submitted.
   pub decided_submitted : (w : Trace) → IsGrown m w → (i t : ℕ) → IsDecided m w i (Ticket t)
       → t < length (submitted_commands w)
   decided_submitted w grown i t h = let r = decided_suggested w grown i t h in ticket_submitted w grown r.0 i t r.1
 
-  -- it is decided at no lower instance, for there no-op is
+  -- If a ticket is decided at an instance, it is not decided at a lower one, because no-op is decided there.
   decided_not_before : (w : Trace) → 1 ≤ m.count → IsGrown m w → (i j t : ℕ) → i < j → IsDecided m w i (Ticket t)
       → IsDecided m w j (Ticket t) → ⊥
   decided_not_before w few grown i j t lt h also =
@@ -131,7 +131,7 @@ module _ (m : Membership) where
       let e = agreement m w few grown i (Ticket t) Noop h n in
       absurd (cc)
 
-  -- a ticket is decided at one instance
+  -- A ticket is decided at only one instance.
   pub decided_once : (w : Trace) → 1 ≤ m.count → IsGrown m w → (i j t : ℕ) → IsDecided m w i (Ticket t)
       → IsDecided m w j (Ticket t) → i ≡ j
   decided_once w few grown i j t h also =
@@ -152,7 +152,7 @@ same_id_back a d h =
     let same = eqb-true a.number d.number r.1 in
     rw (eq-eqb d.client a.client (sym s), eq-eqb d.number a.number (sym same))
 
--- an item of a longer list stood there before, or is the new one
+-- An item of a longer list was in the list before, or is the new item.
 pub get_push : {A : Type 0} (xs : List A) (x y : A) (n : ℕ) → slice_get (xs ++ x ∷ []) n ≡ Some y
     → (slice_get xs n ≡ Some y) ⊎ ((n ≡ length xs) × (x ≡ y))
 get_push [] x y zero h = inr (refl, cc)
@@ -165,7 +165,7 @@ abbrev pub Submission : Type 0
 Submission = Command × ℕ
 
 module _ (w : Trace) (t u : ℕ) (x y : Submission) (e : is_same_id x.0.id y.0.id ≡ true) where
-  -- the same, where a line may have brought the submission o
+  -- Two submissions with one identity have the same ticket, even if a line has just added the submission `o`.
   identity_at : (o : Option Submission)
       → ((z : Submission) → o ≡ Some z → list_any (λ (a : Submission). is_same_id a.0.id z.0.id) (submitted_commands w) ≡ false)
       → slice_get (submitted_commands w ++ option_to_list o) t ≡ Some x
@@ -189,7 +189,7 @@ module _ (w : Trace) (t u : ℕ) (x y : Submission) (e : is_same_id x.0.id y.0.i
         ]
       ]
 
--- a submission had a new identity
+-- The identity of a new submission was not submitted before.
 command_new : (m : Membership) (w : Trace) (l : Line) → May m w l → (z : Submission) → command_in l ≡ Some z
     → list_any (λ (a : Submission). is_same_id a.0.id z.0.id) (submitted_commands w) ≡ false
 command_new m w (Submitted command p) may z e =
@@ -199,7 +199,7 @@ command_new m w (Submitted command p) may z e =
       first_or command (Some z) = z.0
 command_new m w _ may z e = absurd (cc)
 
--- each identity is submitted once
+-- Each identity is submitted at most once.
 pub identity_once : (m : Membership) (w : Trace) → IsGrown m w → (t u : ℕ) (x y : Submission)
     → slice_get (submitted_commands w) t ≡ Some x → slice_get (submitted_commands w) u ≡ Some y
     → is_same_id x.0.id y.0.id ≡ true → t ≡ u

@@ -1,4 +1,4 @@
--- With a beta of 0 a suspicion covers what lies up to the own front.
+-- With a beta of 0, a suspicion covers the open instances up to the suspecting server's own front.
 use Rattle.std.proofs.Common.{◌≡◌, ℕ, suc, ◌+◌, ◌*◌, ◌<◌, ◌≤◌, Bool, true, false, cond, ◌&&◌, ◌||◌, eqb, leb, ltb, List, [], ◌∷◌, Option, Some, None, length, map, inl, inr, refl, sym, ◌∙◌, ap, arith, eqb-true, is_none}
 use Rattle.std.specs.Prelude.{slice_get}
 use Rattle.std.specs.List.{list_any, find}
@@ -21,7 +21,7 @@ use Rattle.mencius_model.proofs.reached.FrontOwners.{front_owner}
 use Rattle.mencius_model.proofs.rights.Journals.{reached_grown}
 use Rattle.mencius_model.proofs.trace.Parts.{is_open, is_covered}
 
--- two tests of a place that agree where it is open
+-- Two tests that agree at an open instance give the same result together with the test that it is open.
 same_test : (a x y d : Bool) → ((a && d) ≡ true → x ≡ y) → ((a && x) && d) ≡ ((a && y) && d)
 same_test true x y true same = rw (same refl) refl
 same_test true true true false same = refl
@@ -36,12 +36,13 @@ clash false e fails = cc
 
 module _ (m : Membership) (w : Trace) (zero : m.beta ≡ 0) (r : IsReached m w) (p q : ℕ) (member : p < m.count)
     (other : p ≡ q → ⊥) where
-  -- the front is no instance of another server
+  -- The front of p is not an instance of another server.
   past_front : (j : ℕ) → owner m j ≡ q → j ≡ front m w p → ⊥
   past_front j theirs at =
       other (sym (front_owner m w p (reached_grown m w r) member) ∙ ap (owner m) (sym at) ∙ theirs)
 
-  -- the reach from the least open instance
+  -- With a beta of 0, an instance j of q is within the reach exactly if j is at most p's front. Here i is the lowest
+  -- open instance, and j is not below it.
   reach_some : (i j : ℕ) → i ≤ j → owner m j ≡ q
       → option_map_or (leb j) (reach_from m (front m w p) (Some i)) false ≡ leb j (front m w p)
   reach_some i j low theirs = go (ltb i (front m w p + m.beta)) refl where
@@ -81,7 +82,7 @@ one_each m w p [] = refl
 one_each m w p (i ∷ is) = ap suc (one_each m w p is)
 
 module _ (m : Membership) (w : Trace) (p q : ℕ) where
-  -- the causes that a server finds, over the instances that are covered
+  -- The causes that a server tests for a suspicion, for a list of covered instances.
   abbrev of_server : List ℕ → ℕ → List (Bool × Refusal)
   of_server is count =
       (is_none (slice_get is 0), NothingToRevoke)

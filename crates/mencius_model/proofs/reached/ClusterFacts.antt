@@ -1,4 +1,4 @@
--- Facts of reached traces on which the cluster stands.
+-- Facts about reached traces that the cluster relies on.
 use Rattle.std.proofs.Common.{◌≡◌, ℕ, ◌<◌, Some, length}
 use Rattle.mencius_base.specs.declared.message.Value.{Value}
 use Rattle.mencius_base.specs.declared.message.Value.TheVariants.{Ticket}
@@ -12,12 +12,12 @@ use Rattle.mencius_model.proofs.paxos.Decisions.{learned_decided}
 use Rattle.mencius_model.proofs.paxos.Tickets.{decided_submitted}
 use Rattle.mencius_model.proofs.histories.Histories.{executed_learned}
 
--- what was executed was learned, and what was learned was submitted
+-- Each executed instance was learned, and the ticket of each learned value was submitted.
 pub record HasClusterFacts (m : Membership) (w : Trace) : Type 0 where
   pub executed : (p i : ℕ) → i < done w p → (z : Value) × (learned_value w p i ≡ Some z)
   pub ticketed : (p i t : ℕ) → learned_value w p i ≡ Some (Ticket t) → t < length (submitted_commands w)
 
--- both hold of every reached trace
+-- In every reached trace, executed instances were learned and learned tickets were submitted.
 pub cluster_facts : (m : Membership) (w : Trace) → IsReached m w → HasClusterFacts m w
 cluster_facts m w reached =
     let grown = reached_grown m w reached in

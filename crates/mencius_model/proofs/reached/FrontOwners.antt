@@ -1,4 +1,4 @@
--- A server's front is an instance of its own.
+-- The front of a server is one of its own instances.
 use Rattle.std.proofs.Common.{◌≡◌, ℕ, ◌+◌, ◌<◌, max, Bool, true, false, cond, eqb, [], ◌∷◌, ◌⊎◌, inl, inr, refl, sym, ◌∙◌, ap, arith, eqb-true}
 use Rattle.std.proofs.lemmas.Bool.{cases_lt}
 use Rattle.std.proofs.Math.Nat.{add-mod_right, mod-eq_of_lt}
@@ -8,7 +8,7 @@ use Rattle.mencius_model.specs.Trace.{Line, Submitted, Heard, Lost, Suspected, R
 use Rattle.mencius_model.specs.Server.{front, front_by}
 use Rattle.mencius_model.proofs.rights.LineRights.{IsGrown, May}
 
--- nothing, or an instance of p
+-- The number is 0, or p owns it as an instance.
 abbrev IsOwnOrNone : Membership → ℕ → ℕ → Type 0
 IsOwnOrNone m p i = (i ≡ 0) ⊎ (owner m i ≡ p)
 

@@ -1,4 +1,4 @@
--- What a server heard was sent; its sets; the highest vote that it heard of.
+-- Each message that a server heard was sent, including those in its sets and the message of its highest vote.
 use Rattle.std.proofs.Common.{◌≡◌, ℕ, ◌≤◌, Bool, true, false, cond, ◌&&◌, eqb, ltb, List, [], ◌∷◌, ◌⊎◌, inl, inr, refl, sym, ap, ◌∙◌, arith, Option, Some, None, eqb-true, ltb-true, ltb-false, slice_get, map, fold}
 use Rattle.std.specs.Prelude.{option_to_list}
 use Rattle.std.proofs.lemmas.Bool.{and_parts, cases_Bool}

@@ -1,4 +1,4 @@
--- What is learned is learned at an instance that there is.
+-- Each learned value is at an instance that exists.
 use Rattle.std.proofs.Common.{◌≡◌, ℕ, zero, suc, ◌+◌, ◌<◌, ◌≤◌, Bool, true, false, cond, List, [], ◌∷◌, ◌++◌, Option, Some, None, map, filter, inl, inr, refl, arith, Ok, slice_get, ltb, leb}
 use Rattle.std.specs.Prelude.{is_none}
 use Rattle.std.specs.List.{range_with_len}
@@ -122,7 +122,7 @@ low_next m few w v e all h =
       low = next_along IsLow m w v e all.low h (low_head e) (low_lines m few w e all.reached);
     }
 
--- what is learned is learned at one of the instances that there are
+-- Each learned value is at an instance below 4,096.
 pub learned_small : (m : Membership) → m.count ≤ most_servers → (w : Trace) → IsReached m w → (p i : ℕ) (z : Value)
     → learned_value w p i ≡ Some z → i < instance_count
 learned_small m few w r p i z h =

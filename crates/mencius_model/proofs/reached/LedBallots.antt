@@ -1,4 +1,4 @@
--- Each message of a reached trace is at a ballot that its sender or its addressee leads.
+-- In a reached trace, each message with a ballot has a sender or a receiver that leads this ballot.
 use Rattle.std.proofs.Common.{◌≡◌, ℕ, ◌≤◌, eqb, Option, Some, None, inl, inr, refl, arith, eqb-true}
 use Rattle.std.proofs.lemmas.Bool.{cases_Bool, cases_lt}
 use Rattle.mencius_base.specs.Members.{Membership, leader, owner}
@@ -17,7 +17,7 @@ use Rattle.mencius_model.proofs.reached.Senders.{acceptance_asked, prepare_right
 use Rattle.mencius_model.proofs.reached.Suggesters.{suggest_owner}
 use Rattle.mencius_model.specs.Ballots.{IsBallot, IsLed, IsVoteBelow, MessagesLed}
 
--- a ballot of a round is led by whose number it has, at every instance
+-- at every instance, the server `b mod n` leads each ballot b of n or more
 led_round : (m : Membership) (b i p : ℕ) → 1 ≤ m.count → m.count ≤ b → owner m b ≡ p → leader m b i ≡ p
 led_round m b i p some above own = elim (cases_Bool (eqb b 0)) [
   | inl e ↦ let zero_ballot = eqb-true b 0 e in absurd (omega (arith, zero_ballot))

@@ -1,4 +1,4 @@
--- Every sent message names servers and instances that there are.
+-- Every sent message names servers and instances that exist.
 use Rattle.std.proofs.Common.{◌≡◌, ℕ, zero, suc, ◌+◌, ◌-◌, ◌*◌, ◌%◌, ◌<◌, ◌≤◌, max, Bool, true, false, cond, ltb, leb, List, [], ◌∷◌, ◌++◌, Option, Some, None, map, filter, inl, inr, refl, arith, Ok, leb-false, slice_get}
 use Rattle.std.specs.Prelude.{IsTrue, is_none}
 use Rattle.std.specs.List.{range_with_len}
@@ -150,7 +150,7 @@ small_next : (m : Membership) → m.count ≤ most_servers → (w v : Trace) (e 
 small_next m few w v e all h =
     next_along (IsSmallLine m) m w v e all h (head_small m e) (small_lines m few w e all (next_is m w v e h).allowed)
 
--- every sent message is small
+-- Every sent message is within its limits.
 pub sent_small : (m : Membership) → m.count ≤ most_servers → (w : Trace) → IsReached m w → (x : Message)
     → IsIn (Sent x) w → IsSmall m x
 sent_small m few w r x h =
@@ -177,7 +177,7 @@ within_small m p (Propose from inst ballot value) member h e =
     rw (lt-ltb from m.count h.0, lt-ltb inst instance_count h.1, lt-ltb 0 ballot h.2)
 within_small m p (Learn from inst value) member h e = rw (lt-ltb from m.count h.0, lt-ltb inst instance_count h.1)
 
--- a message of the trace that goes to a member is addressed to it, within all bounds
+-- `is_for` accepts each sent message for each member that it goes to.
 pub sent_addressed : (m : Membership) → m.count ≤ most_servers → (w : Trace) → IsReached m w → (k p : ℕ) (x : Message)
     → p < m.count → slice_get (sent_messages w) k ≡ Some x → is_sent_to p x ≡ true → IsTrue (is_for m p x)
 sent_addressed m few w r k p x member h e =

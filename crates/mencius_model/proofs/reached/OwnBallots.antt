@@ -1,4 +1,4 @@
--- The ballot of a server's next first phase is in nobody's message.
+-- No message names the ballot of a server's next first phase at an instance.
 use Rattle.std.proofs.Common.{◌≡◌, ℕ, ◌+◌, ◌*◌, ◌/◌, ◌<◌, ◌≤◌, false, Option, Some, None, max, refl, sym, ◌∙◌, subst, inl, inr, arith}
 use Rattle.std.proofs.Math.Nat.{mul-le-mul_right}
 use Rattle.std.proofs.lemmas.Bool.{cases_Bool}
@@ -16,7 +16,7 @@ use Rattle.mencius_model.proofs.rights.Journals.{reached_grown}
 use Rattle.mencius_model.proofs.reached.HeardWasSent.{accepters_accepted, promiser}
 use Rattle.mencius_model.proofs.reached.Senders.{acceptance_asked, prepare_right, prepare_within, promise_asked, propose_ballot, propose_within}
 
--- a ballot of p's own, above all that it tried, is in nobody's message
+-- At an instance, no message names a ballot that p leads and that is above all ballots that p tried there.
 module _ (m : Membership) (w : Trace) (p j b : ℕ) (g : IsGrown m w) (mine : owner m b ≡ p)
     (above : tried_ballot w p j < b) where
   unprepared : (to : ℕ) → IsIn (Sent (Prepare to j b)) w → ⊥
@@ -60,7 +60,7 @@ module _ (m : Membership) (w : Trace) (p j b : ℕ) (g : IsGrown m w) (mine : ow
   pub untried : IsUntried w p j b
   untried = record { unpromised = no_promiser; unaccepted = no_accepter; unsaid = no_proposal (proposal w j b) refl }
 
--- a ballot of the round after those of two ballots is above the first of them
+-- A ballot of the next round is above the ballot that the server tried.
 pub next_round_above : (n p tried promised : ℕ) → 1 ≤ n → tried < (max (tried / n) (promised / n) + 1) * n + p
 next_round_above n p tried promised some = above tried (promised / n) n p some where
   above : (b other n p : ℕ) → 1 ≤ n → b < (max (b / n) other + 1) * n + p

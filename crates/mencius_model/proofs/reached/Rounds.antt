@@ -1,4 +1,4 @@
--- No ballot of a greater round than may be is ever prepared.
+-- No Prepare of a reached trace has a round above the greatest round.
 use Rattle.std.proofs.Common.{◌≡◌, ℕ, ◌<◌, ◌≤◌, Bool, true, false, cond, ltb, leb, leb-false, List, [], ◌∷◌, ◌++◌, Option, Some, None, map, filter, arith, Ok, slice_get}
 use Rattle.std.specs.Prelude.{nat_lt}
 use Rattle.std.specs.List.{list_any}
@@ -78,7 +78,7 @@ low_delivery : (m : Membership) (w v : Trace) (p : ℕ) (o : Option Message) →
 low_delivery m w v p None = tt
 low_delivery m w v p (Some x) = low_message m w v p x
 
--- a suspicion is refused where a round would be too great
+-- If no covered instance has too great a next round, all Prepares of a suspicion are within the limit.
 low_prepared : (m : Membership) (w : Trace) (p : ℕ) → p < m.count → (xs : List ℕ)
     → list_any (λ i. nat_lt greatest_round (next_round m w p i)) xs ≡ false
     → AreLowBallots m (map (preparation m w p) xs)
@@ -115,7 +115,7 @@ low_next : (m : Membership) (w v : Trace) (e : Event) → HoldsAlong (IsLowBallo
 low_next m w v e all h =
     next_along (IsLowBallot m) m w v e all h (low_head m e) (low_lines m w e (next_is m w v e h).allowed)
 
--- the round of a ballot that is prepared is one that there may be
+-- The round of every prepared ballot is at most the greatest round.
 pub prepared_low : (m : Membership) (w : Trace) → IsReached m w → (p i b : ℕ) → IsIn (Sent (Prepare p i b)) w
     → round m b ≤ greatest_round
 prepared_low m w r p i b h =

@@ -1,4 +1,4 @@
--- Whose message it was, in any trace that grew line by line.
+-- The senders of the messages, in any trace that grew line by line.
 use Rattle.std.proofs.Common.{◌≡◌, ℕ, ◌<◌, ◌≤◌, ◌&&◌, eqb, [], ◌∷◌, inl, inr, refl, sym, ◌∙◌, arith, Option, None, lt-ltb, eqb-true}
 use Rattle.std.proofs.lemmas.Bool.{cases_lt, cases_Bool, and_parts}
 use Rattle.mencius_base.specs.declared.message.Message.TheVariants.{Accepted, Prepare, Promise, Propose}
@@ -35,14 +35,14 @@ tried_line p i b (Sent (Prepare from inst ballot)) pos h =
     ]
 tried_line p i b _ pos h = absurd (omega arith)
 
--- p prepares ballots of its own, at the instances of others
+-- p prepares only ballots that it leads, and only at instances of other servers.
 pub prepare_right : (m : Membership) (w : Trace) → IsGrown m w → (p i b : ℕ) → IsIn (Sent (Prepare p i b)) w
     → MayPrepare m p i b
 prepare_right m [] grown p i b h = absurd h
 prepare_right m (l ∷ w) grown p i b (inl e) = rw (← e) at grown.1
 prepare_right m (l ∷ w) grown p i b (inr h) = prepare_right m w grown.0 p i b h
 
--- an owner tries nothing at its own instances
+-- An owner tries no ballot at its own instances.
 pub own_untried : (m : Membership) (w : Trace) → IsGrown m w → (p i : ℕ) → owner m i ≡ p → tried_ballot w p i ≡ 0
 own_untried m w grown p i mine =
     elim (cases_lt 0 (tried_ballot w p i)) [
@@ -53,7 +53,7 @@ own_untried m w grown p i mine =
       | inr ge ↦ omega arith
     ]
 
--- p prepared the ballot at which it proposes
+-- If p proposes at a ballot, it has prepared that ballot.
 pub propose_prepared : (m : Membership) (w : Trace) → IsGrown m w → (p i b : ℕ) (z : Value)
     → IsIn (Sent (Propose p i b z)) w → IsIn (Sent (Prepare p i b)) w
 propose_prepared m [] grown p i b z h = absurd h
@@ -65,7 +65,7 @@ propose_prepared m (l ∷ w) grown p i b z (inl e) =
     inr there
 propose_prepared m (l ∷ w) grown p i b z (inr h) = inr (propose_prepared m w grown.0 p i b z h)
 
--- p leads the ballot at which it proposes
+-- If p proposes at a ballot, its round is at least 1 and p leads it.
 pub propose_ballot : (m : Membership) (w : Trace) → IsGrown m w → (p i b : ℕ) (z : Value)
     → IsIn (Sent (Propose p i b z)) w → (m.count ≤ b) × (owner m b ≡ p)
 propose_ballot m w grown p i b z h =
@@ -90,7 +90,7 @@ propose_once m (l ∷ w) grown p q i b z x (inr h) (inl left) =
     absurd (not_proposed w p i b z (propose_positive m w grown.0 p i b z h) may.none h)
 propose_once m (l ∷ w) grown p q i b z x (inr h) (inr also) = propose_once m w grown.0 p q i b z x h also
 
--- acceptances and promises answer a server that asked
+-- Acceptances and promises go to a server that asked for them.
 asked_more : (l : Line) (w : Trace) (to i b : ℕ) → IsAsked w to i b → IsAsked (l ∷ w) to i b
 asked_more l w to i b (inl s) = inl (s.0, (s.1.0, inr s.1.1))
 asked_more l w to i b (inr right) = inr (right.0, inr right.1)
@@ -109,7 +109,7 @@ promise_asked m (l ∷ w) grown q to i b o (inl e) =
     let may : MayPromise w q to i b o = rw (← e) at grown.1 in inr may.asked
 promise_asked m (l ∷ w) grown q to i b o (inr h) = inr (promise_asked m w grown.0 q to i b o h)
 
--- the greatest ballot that a server tried is none of the lesser
+-- The greatest ballot that a server tried is at least each ballot that it prepared.
 pub prepare_within : (w : Trace) (p i b : ℕ) → IsIn (Sent (Prepare p i b)) w → b ≤ tried_ballot w p i
 prepare_within w p i b h =
     let greatest_by = greatest_ge (tried_by p i) (Sent (Prepare p i b)) w h in
@@ -122,7 +122,7 @@ propose_within m (l ∷ w) grown p i b z (inl e) =
     let may : MayPropose m w p i b z = rw (← e) at grown.1 in omega (arith, may.tried)
 propose_within m (l ∷ w) grown p i b z (inr h) = omega (arith, propose_within m w grown.0 p i b z h)
 
--- what a server tries is a ballot of its own
+-- A server leads the ballot that it tries, if that ballot is above 0.
 pub tried_owner : (m : Membership) (w : Trace) → IsGrown m w → (p i : ℕ) → 0 < tried_ballot w p i
     → owner m (tried_ballot w p i) ≡ p
 tried_owner m w grown p i lt =

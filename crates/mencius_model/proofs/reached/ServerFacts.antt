@@ -1,4 +1,4 @@
--- What holds of every reached trace.
+-- Facts about every reached trace that the contracts of a server rest on.
 use Rattle.std.proofs.Common.{◌≡◌, ℕ, ◌≤◌, [], Option, Some, None, inl, inr, refl, sym, ap, ◌∙◌, arith}
 use Rattle.std.specs.Prelude.{slice_get}
 use Rattle.mencius_base.specs.declared.message.Message.{Message}
@@ -19,18 +19,19 @@ use Rattle.mencius_model.proofs.paxos.Paxos.{accepted_proposed}
 use Rattle.mencius_model.proofs.rights.Journals.{reached_grown, some_server}
 use Rattle.mencius_model.proofs.reached.Senders.{acceptance_asked, own_untried, propose_once}
 
--- what a trace knows of the proposals behind its messages
+-- The facts of a trace about proposals, acceptances and the owner of an instance.
 pub record HasServerFacts (m : Membership) (w : Trace) : Type 0 where
-  -- an instance has one suggestion, and a ballot of it one proposal
+  -- Each Suggest at an instance contains the ticket that is proposed there at ballot 0. Each Propose contains the value
+  -- that is proposed at its ballot.
   pub one_suggest : (k q i t : ℕ) → slice_get (sent_messages w) k ≡ Some (Suggest q i t) → proposal w i 0
       ≡ Some (Ticket t)
   pub one_propose : (k q i b : ℕ) (z : Value) → slice_get (sent_messages w) k ≡ Some (Propose q i b z) → proposal w i b
       ≡ Some z
-  -- only what was proposed is accepted
+  -- A value was proposed at each ballot that is accepted.
   pub voted : (p i b : ℕ) → accepted_ballot w p i ≡ Some b → (z : Value) × (proposal w i b ≡ Some z)
-  -- who accepts the owner's ballot tells the owner
+  -- An acceptance of ballot 0 goes to the owner of the instance.
   pub to_owner : (k q p i : ℕ) → slice_get (sent_messages w) k ≡ Some (Accepted q p i 0) → owner m i ≡ p
-  -- an owner tries nothing at its own instances, and suggests nothing from its front on
+  -- An owner tries no ballot at its own instances, and suggests nothing from its front on.
   pub own_untried : (p i : ℕ) → owner m i ≡ p → tried_ballot w p i ≡ 0
   pub own_unsaid : (p i : ℕ) → owner m i ≡ p → front m w p ≤ i → proposal w i 0 ≡ None
 

@@ -1,4 +1,5 @@
--- An owner's front: each instance has at most one Suggest, by its owner, and none where its owner skipped it.
+-- Only the owner suggests at an instance, it suggests there at most once, and it never suggests at an instance that it
+-- skipped. These facts follow from the owner's front.
 use Rattle.std.proofs.Common.{◌≡◌, ℕ, ◌+◌, ◌<◌, ◌≤◌, [], ◌∷◌, inl, inr, sym, ◌∙◌, arith}
 use Rattle.mencius_base.specs.declared.message.Message.TheVariants.{Suggest, Skip}
 use Rattle.mencius_base.specs.Members.{Membership, owner}

@@ -1,4 +1,4 @@
--- No number in a reached trace passes its limit.
+-- No number in a reached trace exceeds its limit.
 use Rattle.std.proofs.Common.{◌≡◌, ℕ, ◌+◌, ◌/◌, ◌<◌, ◌≤◌, List, Option, Some, inl, inr, ap, ◌∙◌, arith, Ok, length, length-append, slice_get, true, eq-eqb, refl, sym, subst}
 use Rattle.std.proofs.lemmas.Bool.{ltb-false}
 use Rattle.std.proofs.lemmas.Nat.{le-div}
@@ -34,9 +34,9 @@ use Rattle.mencius_model.proofs.paxos.Tickets.{decided_submitted, ticket_submitt
 use Rattle.mencius_model.proofs.trace.Parts.{causes}
 use Rattle.mencius_base.specs.Message.{is_within}
 
--- ---- how many
+-- ---- counts
 
--- an event that is accepted sends no more messages than there is room for
+-- An accepted event sends no more messages than there is room for.
 sends_few : (m : Membership) (w : Trace) (e : Event) → NoneHolds (causes m w e)
     → length (sent_messages w) ≤ most_messages
     → length (sent_messages w) + length (messages_of (lines m w e)) ≤ most_messages
@@ -66,7 +66,7 @@ counts_within m w r =
 owner_ballot : (m : Membership) → round m 0 ≤ greatest_round
 owner_ballot m = omega arith
 
--- a ballot that is not above another is of no greater round
+-- A lower ballot has no greater round, so its round is within the limit too.
 lower_ballot : (m : Membership) (b c : ℕ) → 1 ≤ m.count → c ≤ b → round m b ≤ greatest_round
     → round m c ≤ greatest_round
 lower_ballot m b c some le small =
@@ -122,7 +122,7 @@ module _ (m : Membership) (w : Trace) (few : m.count ≤ most_servers) (r : IsRe
             ((sent_small m few w r (Propose p i b s.0) s.1).0, proposal_within p i b s.0 s.1)
       ]
 
-  -- its servers and instances are within their limits
+  -- The servers and instances of each sent message are within their limits.
   numbers_within : (x : Message) → IsIn (Sent x) w → is_within m x ≡ true
   numbers_within (Accepted q p i b) h =
       within_small m p (Accepted q p i b) (asked_within q p i b h).0 (sent_small m few w r (Accepted q p i b) h)

@@ -1,4 +1,4 @@
--- What an event leaves of what was executed and replied.
+-- Histories, commands and replies that an event does not change.
 use Rattle.std.proofs.Common.{◌≡◌, ℕ, ◌+◌, ◌<◌, zero, suc, List, [], ◌∷◌, ◌++◌, Option, Some, None, map, length, take, slice_get, refl, sym, ap, ◌∙◌, arith, filter_map, option_map, add-zero}
 use Rattle.std.specs.List.{cons_option}
 use Rattle.std.specs.Prelude.{◌==◌, option_to_list}
@@ -22,17 +22,17 @@ use Rattle.mencius_model.proofs.trace.Parts.{reply_from}
 
 -- ---- plain lists
 
--- a table whose rows stay the same
+-- A table stays the same if each of its rows stays the same.
 pub row_kept : {X : Type 0} (f g : ℕ → X) (n : ℕ) (xs : List X) → xs ≡ map f (numbers_below n)
     → ((m : ℕ) → m < n → f m ≡ g m) → xs ≡ map g (numbers_below n)
 row_kept f g n xs h same = h ∙ map-below_same f g n (f 0) same
 
--- there is no number below 0
+-- No number is below 0.
 pub below-zero : numbers_below 0 ≡ []
 unfolding numbers_below
 below-zero = refl
 
--- two functions that agree below n give the same there
+-- Two functions that agree below n give the same list there.
 pub filter_map-below_same : {X : Type 0} (f g : ℕ → Option X) (n : ℕ) → ((m : ℕ) → m < n → f m ≡ g m)
     → filter_map f (numbers_below n) ≡ filter_map g (numbers_below n)
 filter_map-below_same f g zero same = ap (filter_map f) below-zero ∙ sym (ap (filter_map g) below-zero)
@@ -43,15 +43,15 @@ filter_map-below_same {X} f g (suc n) same =
     ∙ ap (λ (o : Option X). filter_map g (numbers_below n) ++ cons_option o []) (same n (omega arith))
     ∙ sym (ap (filter_map g) more ∙ filter_map-append g (numbers_below n) (n ∷ []))
 
--- what stands in the first part stands in the whole
+-- An item in the first of two joined lists is at the same place in the joined list.
 pub slice_get-append : {X : Type 0} (xs ys : List X) (n : ℕ) → n < length xs → slice_get (xs ++ ys) n ≡ slice_get xs n
 slice_get-append [] ys n h = absurd (omega arith)
 slice_get-append (x ∷ xs) ys zero h = refl
 slice_get-append (x ∷ xs) ys (suc n) h = slice_get-append xs ys n (omega arith)
 
--- ---- tickets of commands that are there
+-- ---- tickets of submitted commands
 
--- all are below n
+-- All tickets of the list are below n.
 abbrev pub AreBelow : ℕ → List ℕ → Type 0
 AreBelow n [] = Unit {0}
 AreBelow n (t ∷ ts) = (t < n) × AreBelow n ts
@@ -75,16 +75,16 @@ ticket_told None t h = absurd (cc)
 ticket_told (Some Noop) t h = absurd (cc)
 ticket_told (Some (Ticket u)) t h = let same : u ≡ t = cc in ap (λ (n : ℕ). Some (Ticket n)) same
 
--- every executed ticket was submitted
+-- Every executed ticket was submitted.
 pub history-below : (m : Membership) (w : Trace) (p : ℕ) → HasClusterFacts m w
     → AreBelow (length (submitted_commands w)) (history w p)
 history-below m w p told =
     below_all (length (submitted_commands w)) (λ i. ticket_of (learned_value w p i)) (numbers_below (done w p))
     (λ i t h. told.ticketed p i t (ticket_told (learned_value w p i) t h))
 
--- ---- what an event leaves
+-- ---- facts that an event does not change
 
--- the history of a server that executes nothing
+-- The history of a server that executes nothing stays the same.
 pub history_kept : (m : Membership) (w : Trace) (e : Event) (p : ℕ) → HasClusterFacts m w → done_by p (head e) ≡ 0
     → history (with_event m w e) p ≡ history w p
 history_kept m w e p told none =
@@ -101,7 +101,7 @@ command_kept m w e t h =
     ∙ ap (option_map (λ (x : Command × ℕ). x.0))
     (slice_get-append (submitted_commands w) (option_to_list (command_in (head e))) t h)
 
--- two histories that have the same commands at the tickets below n
+-- Two traces with the same commands at the tickets below n give the same commands for each list of these tickets.
 pub commands_same : (v w : Trace) (n : ℕ) (ts : List ℕ) → ((t : ℕ) → t < n → command_at v t ≡ command_at w t)
     → AreBelow n ts → commands_of v ts ≡ commands_of w ts
 commands_same v w n [] same h = refl
@@ -109,7 +109,7 @@ commands_same v w n (t ∷ ts) same h =
     ap (λ o. cons_option o (commands_of v ts)) (same t h.0)
     ∙ ap (cons_option (command_at w t)) (commands_same v w n ts same h.1)
 
--- the commands of submitted tickets
+-- The commands of submitted tickets stay the same after an event.
 pub commands_kept : (m : Membership) (w : Trace) (e : Event) (ts : List ℕ) → AreBelow (length (submitted_commands w)) ts
     → commands_of (with_event m w e) ts ≡ commands_of w ts
 commands_kept m w e ts h = commands_same (with_event m w e) w (length (submitted_commands w)) ts (command_kept m w e) h
@@ -127,7 +127,7 @@ reply_from_kept m w e command home (Some n) told none =
     ∙ ap (λ cs. Answered_of cs command)
     (commands_kept m w e (take n (history w home)) (below_take _ n _ (history-below m w home told)))
 
--- the reply of a command whose home executes nothing
+-- The reply of a command stays the same if its home executes nothing.
 pub reply_kept : (m : Membership) (w : Trace) (e : Event) (t : ℕ) (command : Command) (home : ℕ) → HasClusterFacts m w
     → done_by home (head e) ≡ 0
     → reply_at (with_event m w e) t command home ≡ reply_at w t command home

@@ -1,4 +1,4 @@
--- Which reply a command has: the first place of a ticket, and the three answers of `reply_of`.
+-- The results of `reply_of` are right, and a reply belongs to the first place of a ticket.
 use Rattle.std.proofs.Common.{◌≡◌, ℕ, zero, suc, ◌≤◌, Bool, true, false, eqb, eqb-true, eq-eqb, List, [], ◌∷◌, inl, inr, refl, sym, ap, ◌∙◌, arith, Option, Some, None, slice_get, option_map, ◌↔◌}
 use Rattle.std.specs.List.{list_any}
 use Rattle.std.proofs.lemmas.Bool.{cases_Bool, and_parts, or_parts}
@@ -18,14 +18,14 @@ use Rattle.mencius_model.proofs.trace.Parts.{reply_from, reply_of_place}
 
 -- ---- the first place
 
--- m is the first place of an item that passes
+-- m is the place of the first item that passes the test.
 pub record IsPlace (A : Type 0) (test : A → Bool) (xs : List A) (m : ℕ) : Type 0 where
   pub item : A
   pub there : slice_get xs m ≡ Some item
   pub passes : test item ≡ true
   pub first : (n : ℕ) (x : A) → slice_get xs n ≡ Some x → test x ≡ true → m ≤ n
 
--- a place after the first
+-- A place that is found in the rest of a list is one greater in the whole list.
 mapped : (o : Option ℕ) (n : ℕ) → option_map suc o ≡ Some n → (m : ℕ) × (o ≡ Some m) × (n ≡ suc m)
 mapped None n h = absurd (cc)
 mapped (Some m) n h = (m, refl, cc)
@@ -47,7 +47,7 @@ place_next test x xs place o e miss s =
       first = λ n y a z. later_place test x xs place miss s.first n y a z;
     })
 
--- `index_of_first` answers the first place of an item that passes
+-- The result of `index_of_first` is the first place of an item that passes the test.
 place_is : {A : Type 0} (test : A → Bool) (xs : List A) (m : ℕ) → index_of_first test xs ≡ Some m → IsPlace A test xs m
 place_is test [] m h = absurd (cc)
 place_is test (x ∷ xs) m h =
@@ -64,7 +64,7 @@ mapped_none : (o : Option ℕ) → option_map suc o ≡ None → o ≡ None
 mapped_none None h = refl
 mapped_none (Some n) h = absurd (cc)
 
--- and none exactly where no item passes
+-- `index_of_first` finds no place exactly if no item passes the test.
 no_place : {A : Type 0} (test : A → Bool) (xs : List A) → index_of_first test xs ≡ None → list_any test xs ≡ false
 no_place test [] h = refl
 no_place test (x ∷ xs) h =
@@ -81,7 +81,7 @@ some_place test (x ∷ xs) h =
 
 -- ---- the reply
 
--- who has the identity of a third has the identity of each other
+-- Two identities that equal a third identity are equal.
 same_ids : (a d id : CommandId) → is_same_id a id ≡ true → is_same_id d id ≡ true → is_same_id a d ≡ true
 same_ids a d id h holds =
     let r = and_parts (eqb a.client id.client) (eqb a.number id.number) h in
@@ -97,7 +97,7 @@ module _ (m : Membership) (few : 1 ≤ m.count) (w : Trace) (g : IsGrown m w) (i
   abbrev is_ticket : ℕ → ℕ → Bool
   is_ticket t u = eqb u t
 
-  -- one submission has this identity
+  -- Only one submission has this identity.
   same_submission : (t u : ℕ) (x y : Submission) → slice_get (submitted_commands w) t ≡ Some x
       → slice_get (submitted_commands w) u ≡ Some y
       → is_same_id x.0.id id ≡ true → is_same_id y.0.id id ≡ true → (t ≡ u) × (x ≡ y)
@@ -106,7 +106,7 @@ module _ (m : Membership) (few : 1 ≤ m.count) (w : Trace) (g : IsGrown m w) (i
       let turned = rw (← e) at d in
       (e, cc)
 
-  -- it stands at one place of its home's history, so it has one reply
+  -- A ticket is at one place of its home's history, so its command has at most one reply.
   pub reply_once : (x y : Option (List ℕ)) → IsReply w id x → IsReply w id y → x ≡ y
   reply_once x y a d =
       let s = same_submission a.ticket d.ticket (a.command, a.home) (d.command, d.home) a.given d.given a.same d.same in
@@ -115,14 +115,14 @@ module _ (m : Membership) (few : 1 ≤ m.count) (w : Trace) (g : IsGrown m w) (i
       let once = history_once m few w g a.home a.place d.place a.ticket a.there there in
       a.is ∙ (rw (parts.0, parts.1, once) (sym d.is))
 
-  -- a reply is not given and awaited at once
+  -- A command cannot have a given reply and be pending at once.
   not_both : (r : Option (List ℕ)) → IsReply w id r → IsPending w id → ⊥
   not_both r a d =
       let s = same_submission a.ticket d.ticket (a.command, a.home) (d.command, d.home) a.given d.given a.same d.same in
       let parts = some_pair_parts a.command d.command a.home d.home (ap Some s.1) in
       d.absent a.place (rw (← parts.1, ← s.0) a.there)
 
-  -- ---- what `reply_of` answers is so
+  -- ---- each result of `reply_of` is right
 
   given_at : (t : ℕ) (x : Submission) (o : Option ℕ) (r : Option (List ℕ)) → slice_get (submitted_commands w) t ≡ Some x
       → is_same_id x.0.id id ≡ true
@@ -183,16 +183,16 @@ module _ (m : Membership) (few : 1 ≤ m.count) (w : Trace) (g : IsGrown m w) (i
       let turned = rw placed.there at h in
       absurd (cc)
 
-  -- ---- and what is so it answers
+  -- ---- each right result is returned
 
-  -- no reply exactly where the identity was never submitted
+  -- `reply_of` returns `None` exactly if the identity was never submitted.
   pub unknown : (reply_of w id ≡ None) ↔ (list_any is_id (submitted_commands w) ≡ false)
   unknown = (
     (λ h. no_place is_id (submitted_commands w) (none_for (index_of_first is_id (submitted_commands w)) refl h)),
     (λ h. rw (some_place is_id (submitted_commands w) h)),
   )
 
-  -- of a submitted identity there is a reply, if only a pending one
+  -- If an identity was submitted, `reply_of` returns a given or a pending reply.
   something : (t : ℕ) (x : Submission) → slice_get (submitted_commands w) t ≡ Some x → is_same_id x.0.id id ≡ true
       → reply_of w id ≡ None → ⊥
   something t x a s h =
@@ -200,7 +200,8 @@ module _ (m : Membership) (few : 1 ≤ m.count) (w : Trace) (g : IsGrown m w) (i
       (no_place is_id (submitted_commands w) (none_for (index_of_first is_id (submitted_commands w)) refl h))
       (get_in (submitted_commands w) t x a) s
 
-  -- of the three answers, a reply or a pending command leaves one
+  -- If the identity was submitted and has a reply, `reply_of` returns that reply. If its command is pending, `reply_of`
+  -- returns `Pending`.
   by_cases : (o : Option Answered) → reply_of w id ≡ o → (t : ℕ) (x : Submission) → slice_get (submitted_commands w) t
       ≡ Some x
       → is_same_id x.0.id id ≡ true
@@ -215,14 +216,14 @@ module _ (m : Membership) (few : 1 ≤ m.count) (w : Trace) (g : IsGrown m w) (i
         (λ pending. absurd (not_both y place pending)),
       )
 
-  -- a reply is given exactly where there is one
+  -- `reply_of` returns a given reply exactly if it is the command's reply.
   pub replied : (r : Option (List ℕ)) → (reply_of w id ≡ Some (Given r)) ↔ IsReply w id r
   replied r = (
     (λ h. given_for (index_of_first is_id (submitted_commands w)) r refl h),
     (λ a. (by_cases (reply_of w id) refl a.ticket (a.command, a.home) a.given a.same).0 r a),
   )
 
-  -- and pending exactly where the home has not executed the command
+  -- `reply_of` returns `Pending` exactly if the home has not executed the command.
   pub awaited : (reply_of w id ≡ Some Pending) ↔ IsPending w id
   awaited = (
     (λ h. pending_for (index_of_first is_id (submitted_commands w)) refl h),

@@ -1,4 +1,4 @@
--- Each event adds lines that had their right: a reached trace has grown line by line.
+-- Each event adds lines that are allowed, so a reached trace has grown line by line.
 use Rattle.std.proofs.Common.{◌≡◌, ◌==◌, if◌then◌else◌, ℕ, suc, ◌+◌, ◌*◌, ◌<◌, ◌≤◌, max, Bool, true, false, cond, not, ◌&&◌, eqb, ltb, leb, nat_le, List, [], ◌∷◌, ◌++◌, length, ◌⊎◌, inl, inr, refl, sym, ap, ◌∙◌, arith, Option, Some, None, Ok, eqb-true, ltb-true, leb-true, leb-false, eq-eqb, lt-ltb, slice_get, map, filter, filter_map, is_none}
 use Rattle.std.specs.Prelude.{Err}
 use Rattle.std.specs.Option.{option_map_or, option_map}
@@ -31,7 +31,7 @@ use Rattle.mencius_model.proofs.reached.HeardWasSent.{promiser, reported_promise
 use Rattle.mencius_base.specs.Limits.{instance_count}
 use Rattle.mencius_model.proofs.trace.Parts.{causes, vote_of, is_newly_skipped, is_free, is_covered, retry_lines, delivery, waiting_of}
 
--- lines that may come one after the other
+-- Each line of the list is allowed after the lines before it.
 abbrev pub AllMay : Membership → Trace → List Line → Type 0
 AllMay m w [] = Unit {0}
 AllMay m w (l ∷ ls) = May m w l × AllMay m (l ∷ w) ls
@@ -43,7 +43,7 @@ grown_followed m w (l ∷ ls) grown a = grown_followed m (l ∷ w) ls (grown, a.
 
 -- ---- Submit and Retry
 
--- a free instance is an own one, from the front on
+-- i is an existing own instance of p, and it is not below p's front.
 pub record IsAhead (m : Membership) (w : Trace) (p : ServerId) (i : Inst) : Type 0 where
   pub own : owner m i ≡ p
   pub past : front m w p ≤ i
@@ -178,7 +178,7 @@ some_is : (o : Option Value) → is_none o ≡ false → (z : Value) × (o ≡ S
 some_is None h = absurd (cc)
 some_is (Some z) h = (z, refl)
 
--- the first Suggest or Propose is what is proposed
+-- If a trace has a Suggest or a Propose at a ballot, a value is proposed at that ballot.
 some_or_none : (o : Option Value) → ((z : Value) × (o ≡ Some z)) ⊎ (o ≡ None)
 some_or_none None = inr refl
 some_or_none (Some z) = inl (z, refl)
@@ -397,7 +397,7 @@ module _ (m : Membership) (w : Trace) (g : IsGrown m w) (k p : ℕ) (member : p 
 
 -- ---- every event
 
--- no cause holds
+-- No cause of the list holds.
 abbrev pub NoneHolds : List (Bool × Refusal) → Type 0
 NoneHolds [] = Unit {0}
 NoneHolds (cause ∷ others) = (cause.0 ≡ false) × NoneHolds others
@@ -423,7 +423,7 @@ step_may m w (Retry p) grown h =
     (tt, retry_may m w p (slice_get (waiting_tickets w p) 0) (λ t e. waiting_lost m w p t e))
 step_may m w (Execute p) grown h = (some_is (learned_value w p (done w p)) h.1.0, tt)
 
--- what is known of an event that is not refused
+-- The event e is not refused at the trace w, and it makes the trace v.
 pub record IsStep (m : Membership) (w v : Trace) (e : Event) : Type 0 where
   pub allowed : NoneHolds (causes m w e)
   pub is : followed_by (head e ∷ w) (lines m w e) ≡ v

@@ -1,4 +1,4 @@
--- What must hold for a line to come: a trace in which each line had that right.
+-- The condition under which each line may be added to a trace.
 use Rattle.std.proofs.Common.{◌≡◌, ◌<◌, ◌≤◌, Bool, true, false, List, [], ◌∷◌, ◌++◌, length, ◌⊎◌, inr, Option, Some, None}
 use Rattle.std.specs.Option.{option_map_or}
 use Rattle.std.specs.List.{list_any}
@@ -18,12 +18,12 @@ use Rattle.mencius_model.specs.Decided.{IsDecided}
 use Rattle.mencius_model.proofs.trace.Lists.{IsIn}
 use Rattle.mencius_base.specs.Limits.{instance_count}
 
--- the ticket of the command that was just submitted
+-- The newest line submits a command, and t is the ticket of that command.
 abbrev pub IsFresh : Trace → TicketNo → Type 0
 IsFresh (Submitted command p ∷ w) t = t ≡ length (submitted_commands w)
 IsFresh _ t = ⊥
 
--- p suggested t, last at i, and learned no-op there
+-- p suggested t at i and at no greater instance, and learned no-op at i.
 pub record HasLost (w : Trace) (p : ServerId) (t : TicketNo) (i : Inst) : Type 0 where
   pub before : IsIn (Sent (Suggest p i t)) w
   pub lost : IsIn (Learned p i Noop) w
@@ -35,7 +35,8 @@ pub record MaySuggest (m : Membership) (w : Trace) (p : ServerId) (i : Inst) (t 
   pub small : i < instance_count
   pub ticket : IsFresh w t ⊎ ((j : Inst) × HasLost w p t j)
 
--- whom an acceptance at (i, b) answers: who suggested or proposed there
+-- The server `to` may get an acceptance at ballot b of i. It suggested at i and b is 0, or it proposed at ballot b of
+-- i.
 abbrev pub IsAsked : Trace → ServerId → Inst → BallotNo → Type 0
 IsAsked w to i b =
     ((b ≡ 0) × ((t : TicketNo) × IsIn (Sent (Suggest to i t)) w)) ⊎ ((z : Value) × IsIn (Sent (Propose to i b z)) w)
@@ -46,7 +47,7 @@ pub record MayAccept (w : Trace) (p to : ServerId) (i : Inst) (b : BallotNo) : T
   pub value : Value
   pub there : proposal w i b ≡ Some value
 
--- p leads the ballot, and does not own the instance
+-- p may prepare ballot b at i. Its round is at least 1, p leads it, and p does not own i.
 pub record MayPrepare (m : Membership) (p : ServerId) (i : Inst) (b : BallotNo) : Type 0 where
   pub above : m.count ≤ b
   pub own : owner m b ≡ p
@@ -57,12 +58,12 @@ pub record MayPromise (w : Trace) (p to : ServerId) (i : Inst) (b : BallotNo) (o
   pub above : promised_ballot w p i < b
   pub is : o ≡ vote w p i
 
--- the ballot is in the vote's reach
+-- There is a vote, and its ballot is at least b.
 abbrev pub Reaches : Option Vote → BallotNo → Type 0
 Reaches None b = ⊥
 Reaches (Some x) b = b ≤ x.ballot
 
--- one server's promise, and the highest vote covers its vote
+-- q promised ballot b of i. If q reported a vote, the ballot of `highest` is at least the ballot of that vote.
 pub record HasPromised (w : Trace) (q : ServerId) (i : Inst) (b : BallotNo) (highest : Option Vote) : Type 0 where
   pub to : ServerId
   pub vote : Option Vote
@@ -103,12 +104,12 @@ May m w (Executed p) = (z : Value) × (learned_value w p (done w p) ≡ Some z)
 May m w (Sent x) = MaySend m w x
 May m w (Learned p i z) = MayLearn m w i z
 
--- each line had its right when it came
+-- Each line of the trace was allowed when it was added.
 abbrev pub IsGrown : Membership → Trace → Type 0
 IsGrown m [] = Unit {0}
 IsGrown m (l ∷ w) = IsGrown m w × May m w l
 
--- w is the older part of v
+-- w is the older part of v.
 pub record IsPast (w v : Trace) : Type 0 where
   pub since : List Line
   pub is : v ≡ since ++ w
@@ -124,7 +125,7 @@ pub in_past : (l : Line) (ls : List Line) (w : Trace) → IsIn l w → IsIn l (l
 in_past l [] w h = h
 in_past l (x ∷ ls) w h = inr (in_past l ls w h)
 
--- the line between what came before it and after it
+-- A line was allowed after the lines that are older than it.
 pub right_at : (m : Membership) (newer : List Line) (l : Line) (older : Trace) → IsGrown m (newer ++ l ∷ older)
     → May m older l
 right_at m newer l older grown = (grown_past m newer (l ∷ older) grown).1

@@ -1,4 +1,4 @@
--- What the questions asked of a trace say of its lines, and that their answers last.
+-- Each fact that a trace gives comes from a line, and later lines do not take it back.
 use Rattle.std.proofs.Common.{◌≡◌, ℕ, ◌<◌, ◌≤◌, Bool, true, false, cond, ◌&&◌, eqb, [], ◌∷◌, ◌⊎◌, inl, inr, refl, ap, arith, Option, Some, None, eq-eqb, eqb-true, ltb, ltb-false, ltb-true}
 use Rattle.std.specs.Prelude.{option_to_list}
 use Rattle.std.specs.Option.{option_or}
@@ -131,7 +131,7 @@ greater_cases (Some x) (Some y) a h =
       | inr e ↦ inl (rw e at h)
     ]
 
--- the last ballot accepted is none of the lesser
+-- If q accepted a ballot at i, the greatest ballot that it accepted there is at least that ballot.
 pub accepted_above : (w : Trace) (q to i b : ℕ) → IsIn (Sent (Accepted q to i b)) w
     → (a : ℕ) × (accepted_ballot w q i ≡ Some a) × (b ≤ a)
 accepted_above [] q to i b h = absurd h
@@ -177,7 +177,7 @@ proposal_line i b x (Sent (Suggest from inst ticket)) pos h =
     absurd (omega (arith, z))
 proposal_line i b x _ pos h = absurd (cc)
 
--- a value that is proposed past ballot 0 stands in a Propose
+-- A value that is proposed above ballot 0 is in a Propose.
 pub proposal_in : (w : Trace) (i b : ℕ) (z : Value) → 0 < b → proposal w i b ≡ Some z
     → (p : ℕ) × IsIn (Sent (Propose p i b z)) w
 proposal_in w i b z pos h =
@@ -197,7 +197,7 @@ start_line i z (Sent (Propose from inst ballot value)) h =
     absurd (cc)
 start_line i z _ h = absurd (cc)
 
--- a value that is proposed at ballot 0 is a suggested ticket
+-- A value that is proposed at ballot 0 is a suggested ticket.
 pub start_in : (w : Trace) (i : ℕ) (z : Value) → proposal w i 0 ≡ Some z
     → (p : ℕ) × (t : ℕ) × IsIn (Sent (Suggest p i t)) w × (z ≡ Ticket t)
 start_in w i z h =
@@ -205,7 +205,7 @@ start_in w i z h =
     let s = start_line i z r.0 r.2 in
     (s.0, s.1, rw s.2 r.1, s.3)
 
--- ---- what was learned and suggested
+-- ---- learned values and suggested tickets
 
 learned_line : (p i : ℕ) (z : Value) (l : Line) → learned_by p i l ≡ Some z → Learned p i z ≡ l
 learned_line p i z (Learned server inst value) h =
@@ -231,7 +231,7 @@ suggested_line p i t _ h = absurd (cc)
 pub suggested_in : (w : Trace) (p i t : ℕ) → suggested_ticket w p i ≡ Some t → IsIn (Sent (Suggest p i t)) w
 suggested_in w p i t h = let r = oldest_in (suggested_by p i) w t h in rw (suggested_line p i t r.0 r.2) r.1
 
--- ---- who accepted
+-- ---- acceptances
 
 pub acceptance_message : (i b q : ℕ) (x : Message) → is_acceptance i b q x ≡ true → (to : ℕ) × (Accepted q to i b ≡ x)
 acceptance_message i b q (Accepted from to inst ballot) h =

@@ -8,7 +8,7 @@ use Rattle.std.proofs.lemmas.Bool.{or_cases, or_left, or_right, and_parts, cases
 use Rattle.mencius_base.specs.Members.{Membership, majority, numbers_below}
 use Rattle.mencius_model.specs.Instance.{are_majority}
 
--- an equality test can be turned round
+-- The order of its arguments does not change an equality test.
 pub eqb_swap : (x y : ℕ) → eqb x y ≡ eqb y x
 eqb_swap x y = grind (arith, nat_tests)
 
@@ -91,7 +91,7 @@ pub length_below : (n : ℕ) → length (numbers_below n) ≡ n
 unfolding numbers_below
 length_below n = length-range_with_len 0 n
 
--- two majorities share a member
+-- Two majorities share a member.
 pub majorities_meet : (m : Membership) (test other : ℕ → Bool) → are_majority m test ≡ true
     → are_majority m other ≡ true
     → (x : ℕ) × (test x ≡ true) × (other x ≡ true)

@@ -1,4 +1,4 @@
--- Lists over the servers and over the instances.
+-- Lists over all servers and over all instances.
 use Rattle.std.proofs.Common.{◌≡◌, ℕ, ◌+◌, ◌<◌, ◌≤◌, Bool, true, false, Option, Some, None, cond, zero, suc, add-zero, List, [], ◌∷◌, ◌++◌, map, length, filter, get_or, set, append-nil, ◌&&◌, ◌||◌, refl, sym, ◌∙◌, ap, arith, ⊎_elim}
 use Rattle.std.specs.Prelude.{replicate, slice_get}
 use Rattle.std.specs.List.{count_by, filter_map, find, fold, list_any, range_with_len}
@@ -19,7 +19,7 @@ pub get_or-map-below : {X : Type 0} (f : ℕ → X) (n m : ℕ) (d : X) → m < 
 unfolding numbers_below
 get_or-map-below f n m d h = get_or-map-range_with_len f 0 n m m d h (omega arith)
 
--- a list that is f at each place is the list of f
+-- If a list has the value `f m` at each place m, it is the list of the values of f.
 pub map-below_by : {X : Type 0} (f : ℕ → X) (xs : List X) (n : ℕ) (d : X) → length xs ≡ n
     → ((m : ℕ) → m < n → get_or xs m d ≡ f m) → xs ≡ map f (numbers_below n)
 unfolding numbers_below
@@ -30,7 +30,7 @@ pub map-below_same : {X : Type 0} (f g : ℕ → X) (n : ℕ) (d : X) → ((m : 
 map-below_same f g n d e =
     map-below_by g (map f (numbers_below n)) n d (length-map-below f n) (λ m h. get_or-map-below f n m d h ∙ e m h)
 
--- a write at one place
+-- If f and g differ only at m, writing the value of g at place m turns the list of f into the list of g.
 pub map-below_set : {X : Type 0} (f g : ℕ → X) (n m : ℕ) (x d : X) → g m ≡ x
     → ((z : ℕ) → z < n → (z ≡ m → ⊥) → f z ≡ g z) → set (map f (numbers_below n)) m x ≡ map g (numbers_below n)
 map-below_set f g n m x d here there =
@@ -41,13 +41,13 @@ map-below_set f g n m x d here there =
     (λ (ne : z ≡ m → ⊥). get_or-set_other (map f (numbers_below n)) m z x d ne ∙ get_or-map-below f n z d h ∙ there z h ne)
     (cases_eq z m))
 
--- one value everywhere
+-- If f has the same value everywhere, its list repeats that value.
 pub map-below_constant : {X : Type 0} (f : ℕ → X) (n : ℕ) (y : X) → ((m : ℕ) → m < n → f m ≡ y)
     → replicate n y ≡ map f (numbers_below n)
 map-below_constant f n y e =
     map-below_by f (replicate n y) n y (length-replicate n y) (λ m h. get_or-replicate n m y y h ∙ sym (e m h))
 
--- a count over a list of tests
+-- The count of a list under a test is the count of the test's results.
 counts_alike : (f : ℕ → Bool) (n : ℕ) (xs : List ℕ)
     → fold (λ (m : ℕ) (a : Bool). m + cond a 1 0) n (map f xs) ≡ fold (λ (m : ℕ) (x : ℕ). m + cond (f x) 1 0) n xs
 counts_alike f n [] = refl
@@ -81,13 +81,13 @@ below-more n =
     map-same [] = refl
     map-same (x ∷ xs) = ap (λ (ys : List ℕ). x ∷ ys) (map-same xs)
 
--- a count up to one more
+-- The count below n + 1 is the count below n, plus 1 if n passes the test.
 pub count_by-below_more : (test : ℕ → Bool) (n : ℕ)
     → count_by test (numbers_below (n + 1)) ≡ count_by test (numbers_below n) + cond (test n) 1 0
 count_by-below_more test n =
     ap (count_by test) (below-more n) ∙ fold-append (λ (m : ℕ) (x : ℕ). m + cond (test x) 1 0) 0 (numbers_below n) (n ∷ [])
 
--- a count goes no further than the last that passes
+-- Numbers that fail the test do not change the count.
 pub count_by-below_none : (test : ℕ → Bool) (n m : ℕ) → ((j : ℕ) → n ≤ j → j < n + m → test j ≡ false)
     → count_by test (numbers_below (n + m)) ≡ count_by test (numbers_below n)
 count_by-below_none test n zero e = ap (λ (j : ℕ). count_by test (numbers_below j)) (add-zero n)
@@ -126,7 +126,7 @@ find-range_same : (f g : ℕ → Bool) (a n : ℕ) → ((j : ℕ) → j < a + n 
 find-range_same f g a zero e = refl
 find-range_same f g a (suc n) e = rw (e a (omega arith), find-range_same f g (a + 1) n (λ j h. e j (omega arith)))
 
--- the first instance that passes
+-- `find` returns the first instance that passes the test.
 pub find-instances : (test : ℕ → Bool) (i : ℕ) → i < instance_count → ((j : ℕ) → j < i → test j ≡ false) → test i ≡ true
     → find test instances ≡ Some i
 unfolding numbers_below instances
@@ -143,7 +143,7 @@ pub find-instances_same : (f g : ℕ → Bool) → ((j : ℕ) → j < instance_c
 unfolding numbers_below instances
 find-instances_same f g e = find-range_same f g 0 instance_count e
 
--- what is found passes, and is an instance
+-- The number that was found passes the test and is below n.
 pub record IsFound (test : ℕ → Bool) (n m : ℕ) : Type 0 where
   pub passes : test m ≡ true
   pub small : m < n
@@ -165,7 +165,7 @@ pub find-instances_found : (test : ℕ → Bool) (m : ℕ) → find test instanc
 unfolding numbers_below instances
 find-instances_found test m e = find-range_found test 0 instance_count m e
 
--- and nothing before it passes
+-- No number before the number that was found passes the test.
 find-range_before : (test : ℕ → Bool) (a n m : ℕ) → find test (range_with_len a n) ≡ Some m → (j : ℕ) → a ≤ j → j < m
     → test j ≡ false
 find-range_before test a zero m e j low less = absurd (cc)
@@ -186,7 +186,7 @@ pub find-instances_before : (test : ℕ → Bool) (m : ℕ) → find test instan
 unfolding numbers_below instances
 find-instances_before test m e j less = find-range_before test 0 instance_count m e j (omega arith) less
 
--- where nothing is found, nothing passes
+-- If no number is found, no number passes the test.
 find-range_nothing : (test : ℕ → Bool) (a n : ℕ) → find test (range_with_len a n) ≡ None → (j : ℕ) → a ≤ j
     → j < a + n → test j ≡ false
 find-range_nothing test a zero e j low less = absurd (omega arith)
@@ -211,7 +211,7 @@ pub map-instances_same : {X : Type 0} (f g : ℕ → X) (d : X) → ((m : ℕ) �
     → map f instances ≡ map g instances
 map-instances_same f g d e = rw instances-below (map-below_same f g instance_count d e)
 
--- the first that a function gives over the instances
+-- The first result of f over a range is its result at the lowest number that has one.
 slice_get-range : (f : ℕ → Option ℕ) (a n i t : ℕ) → a ≤ i → i < a + n → ((j : ℕ) → a ≤ j → j < i → f j ≡ None)
     → f i ≡ Some t → slice_get (filter_map f (range_with_len a n)) 0 ≡ Some t
 slice_get-range f a zero i t low high before here = absurd (omega arith)
@@ -254,7 +254,7 @@ pub filter_map-instances_same : (f g : ℕ → Option ℕ) → ((j : ℕ) → j 
 unfolding numbers_below instances
 filter_map-instances_same f g e = filter_map-range_same f g 0 instance_count e
 
--- whether a test passes at some instance
+-- `list_any` says whether some number of a range passes the test.
 any-range : (test : ℕ → Bool) (a n i : ℕ) → a ≤ i → i < a + n → test i ≡ true
     → list_any test (range_with_len a n) ≡ true
 any-range test a zero i low high here = absurd (omega arith)
@@ -296,7 +296,7 @@ pub any-instances_found : (test : ℕ → Bool) → list_any test instances ≡ 
 unfolding numbers_below instances
 any-instances_found test h = any-range_found test 0 instance_count h
 
--- filters
+-- ---- filters
 pub any-filter : (g f : ℕ → Bool) (xs : List ℕ) → list_any f (filter g xs) ≡ list_any (λ (x : ℕ). g x && f x) xs
 any-filter g f [] = refl
 any-filter g f (x ∷ xs) = go (g x) (any-filter g f xs) where

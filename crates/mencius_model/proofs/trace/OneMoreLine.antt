@@ -1,4 +1,4 @@
--- What one more line changes in what the trace says.
+-- The effect of another line on the facts that a trace gives.
 use Rattle.std.proofs.Common.{◌≡◌, ℕ, ◌<◌, ◌≤◌, Bool, true, false, [], ◌∷◌, Option, Some, None, max, refl, ap, arith, cond, ltb, eqb, ◌&&◌, ⊎_elim}
 use Rattle.std.specs.Option.{option_map, option_or}
 use Rattle.std.proofs.lemmas.Bool.{cases_lt, lt-ltb, le-ltb}
@@ -18,7 +18,7 @@ pub greater_ballot-none : (x : Option ℕ) → greater_ballot x None ≡ x
 greater_ballot-none None = refl
 greater_ballot-none (Some x) = refl
 
--- a line that gives nothing changes nothing
+-- A line does not change the result if the function gives 0 or `None` for it.
 pub greatest_quiet : (f : Line → ℕ) (l : Line) (w : Trace) → f l ≡ 0 → greatest_by f (l ∷ w) ≡ greatest_by f w
 greatest_quiet f l w e = rw e (max-zero (greatest_by f w))
 
@@ -26,7 +26,7 @@ pub oldest_quiet : {A : Type 0} (f : Line → Option A) (l : Line) (w : Trace) �
     → oldest_by f (l ∷ w) ≡ oldest_by f w
 oldest_quiet f l w e = rw e (option_or-none (oldest_by f w))
 
--- what was given first stays
+-- The first value that was given stays.
 pub oldest_stays : {A : Type 0} (f : Line → Option A) (l : Line) (w : Trace) (x : A) → oldest_by f w ≡ Some x
     → oldest_by f (l ∷ w) ≡ Some x
 oldest_stays f l w x e = rw e
@@ -36,7 +36,7 @@ pub vote_of_same : (v w : Trace) (i : ℕ) (o : Option ℕ) → ((b : ℕ) → p
 vote_of_same v w i None e = refl
 vote_of_same v w i (Some b) e = ap (option_map (λ x. record { ballot = b; value = x })) (e b)
 
--- no number, or one that is not above
+-- The number is absent or at most n.
 abbrev pub IsAtMost : Option ℕ → ℕ → Type 0
 IsAtMost None n = Unit {0}
 IsAtMost (Some b) n = b ≤ n
@@ -71,7 +71,7 @@ accepted_by-small p i (Retried server) = tt
 accepted_by-small p i (Executed server) = tt
 accepted_by-small p i (Learned server inst value) = tt
 
--- an acceptance is never above the promise
+-- The greatest ballot that p accepted at i is at most the ballot that p promised there.
 pub accepted_small : (w : Trace) (p i : ℕ) → IsAtMost (accepted_ballot w p i) (promised_ballot w p i)
 accepted_small [] p i = tt
 accepted_small (l ∷ w) p i = IsAtMost-greater _ _ _ _ (accepted_small w p i) (accepted_by-small p i l)

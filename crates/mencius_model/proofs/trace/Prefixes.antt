@@ -1,4 +1,4 @@
--- Prefixes of one list.
+-- Prefixes of lists.
 use Rattle.std.proofs.Common.{◌≡◌, ℕ, zero, suc, ◌≤◌, List, [], ◌∷◌, ◌++◌, take, length, refl, ap, sym, ◌∙◌, inl}
 use Rattle.std.proofs.Common.{inr, ⊎_elim, arith, append_assoc, length-append}
 use Rattle.std.proofs.lemmas.List.{append-nil}
@@ -20,7 +20,7 @@ prefix_trans xs ys zs h prefix =
 pub prefix_length : {A : Type 0} (xs ys : List A) → IsPrefix xs ys → length xs ≤ length ys
 prefix_length xs ys h = omega (arith, sym (ap length h.1) ∙ length-append xs h.0)
 
--- of two prefixes of one list one is a prefix of the other
+-- One of two prefixes of a list is a prefix of the other.
 pub prefix_either : {A : Type 0} (xs ys zs : List A) → IsPrefix xs zs → IsPrefix ys zs → IsComparable xs ys
 prefix_either [] ys zs h prefix = inl (ys, refl)
 prefix_either (x ∷ xs) [] zs h prefix = inr (x ∷ xs, refl)
@@ -30,7 +30,7 @@ prefix_either (x ∷ xs) (y ∷ ys) (z ∷ zs) h prefix =
     ⊎_elim (λ (r : IsPrefix xs ys). inl (r.0, cc (heads, r.1))) (λ (r : IsPrefix ys xs). inr (r.0, cc (heads, r.1)))
     (prefix_either xs ys zs (h.0, cc (h.1)) (prefix.0, cc (prefix.1)))
 
--- a prefix as long as the whole is the whole
+-- A prefix that is as long as the whole list is the whole list.
 pub prefix_whole : {A : Type 0} (xs ys : List A) → IsPrefix xs ys → length ys ≤ length xs → xs ≡ ys
 prefix_whole [] [] h le = refl
 prefix_whole [] (y ∷ ys) h le = absurd (omega arith)
@@ -38,7 +38,7 @@ prefix_whole (x ∷ xs) [] h le = absurd (cc (h.1))
 prefix_whole (x ∷ xs) (y ∷ ys) h le =
     let rest = prefix_whole xs ys (h.0, cc (h.1)) (omega arith) in cc (h.1, rest)
 
--- of two lists of which one is a prefix of the other it is the shorter
+-- If one of two lists is a prefix of the other, the shorter list is a prefix of the longer list.
 pub shorter_begins : {A : Type 0} (xs ys : List A) → IsComparable xs ys → length xs ≤ length ys
     → IsPrefix xs ys
 shorter_begins xs ys either le =

@@ -1,4 +1,4 @@
--- Lines that say nothing of what a server knows of an instance.
+-- Lines that contain nothing about a server's slot for an instance.
 use Rattle.std.proofs.Common.{◌≡◌, ℕ, Bool, true, false, Option, None, refl, sym, eqb, ◌&&◌}
 use Rattle.mencius_base.specs.Numbers.{ServerId, Inst, BallotNo}
 use Rattle.mencius_base.specs.declared.message.Message.{Message}
@@ -9,7 +9,7 @@ use Rattle.mencius_model.specs.Trace.{Line, Heard, Sent, Learned}
 use Rattle.mencius_model.specs.Instance.{promised_by, proposal_by, accepted_by, learned_by, tried_by, is_promise, is_acceptance, vote_reported}
 use Rattle.std.proofs.lemmas.Bool.{ne_eqb}
 
--- a line that says nothing of p's slot for i
+-- The line contains no promise, acceptance, Prepare or learning of p at i, and no proposal at i.
 pub record IsQuiet (p : ServerId) (i : Inst) (l : Line) : Type 0 where
   pub promised : promised_by p i l ≡ 0
   pub proposed : (b : BallotNo) → proposal_by i b l ≡ None
@@ -20,13 +20,13 @@ pub record IsQuiet (p : ServerId) (i : Inst) (l : Line) : Type 0 where
 pub quiet_heard : (k p i : ℕ) → IsQuiet p i (Heard k p)
 quiet_heard k p i = record { promised = refl; proposed = λ b. refl; accepted = refl; learned = refl; tried = refl }
 
--- a message that counts in no set of the ballot that p tries at i
+-- The message is not a promise or an acceptance of ballot b of i, and it reports no vote there.
 pub record IsUncounted (i : Inst) (b : BallotNo) (x : Message) : Type 0 where
   pub promise : (q : ServerId) → is_promise i b q x ≡ false
   pub acceptance : (q : ServerId) → is_acceptance i b q x ≡ false
   pub report : vote_reported i b x ≡ None
 
--- what p says of one instance is quiet for another
+-- A line of p about one instance is quiet for all other instances.
 both-false : (a : Bool) → (a && false) ≡ false
 both-false true = refl
 both-false false = refl

@@ -1,4 +1,4 @@
--- The vote reported: which of the votes heard it is, and that a repeat changes nothing.
+-- The reported vote is one of the votes that were heard, and a message that is heard again changes nothing.
 use Rattle.std.proofs.Common.{◌≡◌, ℕ, ◌<◌, ◌≤◌, Bool, true, false, List, [], ◌∷◌, ◌++◌, Option, Some, None, ◌⊎◌, inl, inr, map, refl, ◌∙◌, ap, subst, arith, cond, ltb, eqb, ◌&&◌, ◌||◌, ⊎_elim, sym}
 use Rattle.std.specs.Prelude.{Contains}
 use Rattle.std.specs.List.{fold, list_any}
@@ -35,7 +35,8 @@ contained_in (y ∷ xs) x has =
       | inr later ↦ inr (contained_in xs x later)
     ]
 
--- the first vote stands when the second is reported
+-- The second vote does not replace the first as the highest vote. It is absent, or its ballot is not greater than the
+-- ballot of the first.
 abbrev pub Stands : Option Vote → Option Vote → Type 0
 Stands x None = Unit {0}
 Stands None (Some y) = ⊥
@@ -66,7 +67,7 @@ Stands-higher_vote_left (Some o) (Some x) (Some r) stands =
     (λ (more : x.ballot ≤ o.ballot). rw (le-ltb o.ballot x.ballot more) stands)
     (cases_lt o.ballot x.ballot)
 
--- a vote reported twice counts once
+-- A vote that is reported twice in a row counts once.
 pub higher_vote_twice : (o r : Option Vote) → higher_vote (higher_vote o r) r ≡ higher_vote o r
 higher_vote_twice o r = higher_vote-stands (higher_vote o r) r (Stands-higher_vote_right o r)
 
@@ -85,12 +86,12 @@ Stands-fold_heard report (h ∷ hs) x o has =
     (λ (later : Contains hs x). Stands-fold_heard report hs x (higher_vote o (report h)) later)
     (contains_cases h x hs has)
 
--- the highest vote stands against each that was heard
+-- No vote that was heard replaces the highest vote that was heard.
 pub Stands-heard : (report : Message → Option Vote) (hs : List Message) (x : Message) → Contains hs x
     → Stands (fold higher_vote None (map report hs)) (report x)
 Stands-heard report hs x has = Stands-fold_heard report hs x None has
 
--- a set's question has the same answer when a message comes again
+-- A repeated message does not change whether some heard message passes a test.
 pub any_again : (test : Message → Bool) (hs : List Message) (x : Message) → Contains hs x
     → list_any test (hs ++ x ∷ []) ≡ list_any test hs
 any_again test hs x has =
@@ -105,7 +106,7 @@ any_again test hs x has =
     or_false true = refl
     or_false false = refl
 
--- the highest of two votes is one of them
+-- The higher of two votes is one of them.
 higher_vote-cases : (o r : Option Vote) (x : Vote) → higher_vote o r ≡ Some x → (o ≡ Some x) ⊎ (r ≡ Some x)
 higher_vote-cases None r x e = inr e
 higher_vote-cases (Some o) None x e = inl e
@@ -115,7 +116,7 @@ higher_vote-cases (Some o) (Some r) x e = either (ltb o.ballot r.ballot) e
     either true e = inr e
     either false e = inl e
 
--- only a promise reports a vote
+-- Only a promise reports a vote.
 promise_reported : (i b : ℕ) (x : Message) (z : Vote) → vote_reported i b x ≡ Some z
     → (from : ℕ) × (to : ℕ) × (x ≡ Promise from to i b (Some z))
 promise_reported i b (Promise from to inst ballot vote) z e = either (eqb inst i) (eqb ballot b) refl refl e
@@ -153,7 +154,7 @@ fold_heard i b z (h ∷ hs) o e =
     (λ (later : IsReported hs i b z). inr (later.0, later.1, contains_later h _ hs later.2))
     (fold_heard i b z hs (higher_vote o (vote_reported i b h)) e)
 
--- the highest vote was heard
+-- The highest vote was reported by a promise that was heard.
 pub higher_vote-heard : (i b : ℕ) (z : Vote) (hs : List Message) → fold higher_vote None (map (vote_reported i b) hs) ≡ Some z
     → (from : ℕ) × (to : ℕ) × Contains hs (Promise from to i b (Some z))
 higher_vote-heard i b z hs e =

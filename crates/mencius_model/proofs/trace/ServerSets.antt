@@ -1,4 +1,4 @@
--- What one more message heard changes in a set of servers.
+-- The effect of another heard message on a set of servers and on the highest vote.
 use Rattle.std.proofs.Common.{◌≡◌, ℕ, Bool, true, false, List, [], ◌∷◌, ◌++◌, Option, Some, None, map, set, refl, sym, ◌∙◌, ap, eqb, ◌||◌}
 use Rattle.std.specs.Prelude.{slice_get}
 use Rattle.std.specs.List.{list_any, fold}
@@ -29,7 +29,7 @@ pub any_more : (test : Message → Bool) (hs : List Message) (x : Message)
     → list_any test (hs ++ x ∷ []) ≡ (list_any test hs || test x)
 any_more test hs x = list_any-append test hs (x ∷ []) ∙ ap (λ (d : Bool). list_any test hs || d) (or-false (test x))
 
--- a message that is none of the set's
+-- A message that counts for no server leaves the set as it is.
 pub set_quiet : (test : ℕ → Message → Bool) (hs : List Message) (x : Message) (n : ℕ) → ((q : ℕ) → test q x ≡ false)
     → map (λ (q : ℕ). list_any (test q) (hs ++ x ∷ [])) (numbers_below n) ≡ map (λ (q : ℕ). list_any (test q) hs) (numbers_below n)
 set_quiet test hs x n e =
@@ -37,7 +37,7 @@ set_quiet test hs x n e =
     (λ q h. any_more (test q) hs x ∙ ap (λ (d : Bool). list_any (test q) hs || d) (e q)
     ∙ or-false (list_any (test q) hs))
 
--- one of the set's, by a server
+-- A message that counts for one server adds that server to the set.
 pub set_more : (test : ℕ → Message → Bool) (hs : List Message) (x : Message) (n from : ℕ)
     → ((q : ℕ) → test q x ≡ eqb from q)
     → map (λ (q : ℕ). list_any (test q) (hs ++ x ∷ [])) (numbers_below n)

@@ -1,4 +1,4 @@
--- Schedules line by line: what each event adds to the trace, beside the line of the event.
+-- Schedules line by line, with the lines that each event adds to the trace after its own line.
 use Rattle.std.proofs.Common.{◌≡◌, List, [], ◌∷◌, Some, None, refl}
 use Rattle.mencius_base.specs.declared.event.Event.{Event}
 use Rattle.mencius_base.specs.declared.message.Message.TheVariants.{Suggest, Skip, Accepted, Prepare, Promise, Propose, Learn}
@@ -8,7 +8,7 @@ use Rattle.mencius_model.specs.Trace.{Line, Sent, Learned, Trace, followed_by}
 use Rattle.mencius_model.specs.Next.{head, lines}
 use Rattle.mencius_model.proofs.worked.WorkedSchedules.{three, skip_before_a_suggestion, wrong_suspicion_keeps_the_command, late_suggestion_decided_further_on, duelling_revokers}
 
--- the lines of each event, where none is refused
+-- The lines that each event adds, if none of the events is refused.
 abbrev lines_of_events : Membership → Trace → List Event → List (List Line)
 lines_of_events m w [] = []
 lines_of_events m w (e ∷ es) = lines m w e ∷ lines_of_events m (followed_by (head e ∷ w) (lines m w e)) es

@@ -1,4 +1,4 @@
--- Schedules in which events are refused: for what cause, and that the others come as if these were not there.
+-- Schedules with refused events, the cause of each refusal, and the trace, which is the same as without these events.
 use Rattle.std.proofs.Common.{◌≡◌, ℕ, List, [], ◌∷◌, Option, Some, None, Result, Ok, Err, refl}
 use Rattle.mencius_base.specs.declared.command.Command.{Command}
 use Rattle.mencius_base.specs.declared.command.Op.TheVariants.{Set, Get}
@@ -11,12 +11,12 @@ use Rattle.mencius_model.specs.Trace.{Trace}
 use Rattle.mencius_model.specs.Next.{next, refusal_cause}
 use Rattle.mencius_model.proofs.worked.WorkedSchedules.{three, set_a, report}
 
--- the trace after an event, refused or not
+-- The trace after an event. A refused event leaves the trace as it is.
 abbrev after : Trace → Result Trace Refusal → Trace
 after w (Ok v) = v
 after w (Err r) = w
 
--- what each event is refused for, and what all of them make
+-- The refusals of the events in turn, or `None` for accepted events. The trace after all of them follows.
 abbrev answers : Membership → Trace → List Event → List (Option Refusal)
 answers m w [] = []
 answers m w (e ∷ es) = refusal_cause m w e ∷ answers m (after w (next m w e)) es
@@ -33,7 +33,7 @@ answers-nothing_to_revoke_and_self_suspicion : answers three [] nothing_to_revok
 unfolding numbers_below instances most_messages most_events
 answers-nothing_to_revoke_and_self_suspicion = refl
 
--- another command of the same identity
+-- Another command with the same identity as `set_a`.
 abbrev get_a_again : Command
 get_a_again = record { id = record { client = 1; number = 0 }; op = Get (97 ∷ []) }
 
@@ -49,12 +49,12 @@ answers-refusals : answers three [] refusals
 unfolding numbers_below instances most_messages most_events
 answers-refusals = refl
 
--- the refused events add no line
+-- The refused events add no line.
 outcome-refusals : outcome three [] refusals ≡ outcome three [] (Submit 0 set_a ∷ Lose 0 2 ∷ Deliver 0 1 ∷ [])
 unfolding numbers_below instances most_messages most_events
 outcome-refusals = refl
 
--- one acceptance, heard three times, is no majority
+-- One acceptance that is heard three times does not make a majority.
 abbrev a_repeat_is_no_majority : List Event
 a_repeat_is_no_majority = Submit 0 set_a ∷ Deliver 0 1 ∷ Deliver 1 0 ∷ Deliver 1 0 ∷ Deliver 1 0 ∷ Execute 0 ∷ []
 
@@ -63,8 +63,8 @@ answers-a_repeat_is_no_majority : answers three [] a_repeat_is_no_majority ≡ N
 unfolding numbers_below instances most_messages most_events
 answers-a_repeat_is_no_majority = refl
 
--- a suggestion at an instance, after two more of the same server: one Skip covers three instances, and execution
--- stops at the first that is not learned
+-- A server hears the third of three suggestions of another server. It sends one Skip that covers three of its
+-- instances. Another server hears this Skip, and its execution stops at the first instance that it has not learned.
 abbrev set_to : ℕ → ℕ → Command
 set_to number text = record { id = record { client = 1; number = number }; op = Set (97 ∷ []) (text ∷ []) }
 
@@ -84,7 +84,8 @@ report-one_skip_over_three_instances : report three (Ok (outcome three [] one_sk
 unfolding numbers_below instances most_messages most_events
 report-one_skip_over_three_instances = refl
 
--- looking ahead: a suspicion reaches twice beta past the own front, from an instance below beta past it
+-- A suspicion looks ahead from an instance that is less than beta above the own front. It reaches twice beta above the
+-- front.
 abbrev looking_ahead : Membership
 looking_ahead = record three { beta = 2 }
 

@@ -1,5 +1,5 @@
--- Schedules worked by hand, and what the definitions make of them. Each is computed whole: it shows
--- that the definitions say what the protocol means, and that traces with decisions exist.
+-- Schedules worked by hand, with the traces that the definitions give for them. Each trace is computed as a whole. The
+-- schedules show that the definitions agree with the protocol, and that traces with decisions exist.
 use Rattle.std.proofs.Common.{◌≡◌, ℕ, List, [], ◌∷◌, ◌++◌, Option, Some, None, Result, Ok, Err, refl, ap, ◌∙◌, length, map, nat_cmp}
 use Rattle.std.specs.Cmp.Lexicographic.{slice_cmp, nat_list_cmp_total}
 use Rattle.std.specs.FinMap as finite
@@ -23,16 +23,17 @@ one = new_members 1
 abbrev pub three : Membership
 three = new_members 3
 
--- client 1 binds the key `a` to the text `x`
+-- Client 1 binds the key `a` to the text `x`.
 abbrev pub set_a : Command
 set_a = record { id = record { client = 1; number = 0 }; op = Set (97 ∷ []) (120 ∷ []) }
 
--- how many messages and events there were, and of each server its front, how many instances it executed and its history
+-- The numbers of messages and of events, and the front, the number of executed instances and the history of each
+-- server.
 abbrev pub report : Membership → Result Trace Refusal → ℕ × ℕ × List (ℕ × ℕ × List ℕ)
 report m (Err r) = (0, 0, [])
 report m (Ok w) = (length (sent_messages w), events w, map (λ p. (front m w p, done w p, history w p)) (numbers_below m.count))
 
--- the only server is a majority
+-- A single server is a majority.
 abbrev one_server : List Event
 one_server = Submit 0 set_a ∷ Deliver 0 0 ∷ Deliver 1 0 ∷ Execute 0 ∷ []
 
@@ -40,7 +41,7 @@ report-one_server : report one (replay one one_server) ≡ (3, 4, (1, 1, 0 ∷ [
 unfolding numbers_below instances most_messages most_events
 report-one_server = refl
 
--- a command that nobody suspects
+-- A command is decided without any suspicion.
 abbrev pub one_command : List Event
 one_command = Submit 0 set_a ∷ Deliver 0 1 ∷ Deliver 0 0 ∷ Deliver 1 0 ∷ Deliver 2 0 ∷ Execute 0 ∷ []
 
@@ -48,7 +49,7 @@ report-one_command : report three (replay three one_command) ≡ (4, 6, (3, 1, 0
 unfolding numbers_below instances most_messages most_events
 report-one_command = refl
 
--- two servers give up their instances before a suggestion
+-- Two servers give up their instances below a suggestion.
 abbrev pub skip_before_a_suggestion : List Event
 skip_before_a_suggestion =
     Submit 2 set_a ∷ Deliver 0 0 ∷ Deliver 0 1 ∷ Deliver 1 2 ∷ Deliver 3 2 ∷ Deliver 2 2 ∷ Deliver 4 2
@@ -59,7 +60,7 @@ report-skip_before_a_suggestion : report three (replay three skip_before_a_sugge
 unfolding numbers_below instances most_messages most_events
 report-skip_before_a_suggestion = refl
 
--- a server that is wrongly suspected: the revoker hears of the command and has to propose it
+-- A server is wrongly suspected. The revoker learns of its command from a promise, and must propose it.
 abbrev pub wrong_suspicion_keeps_the_command : List Event
 wrong_suspicion_keeps_the_command =
     Submit 0 set_a ∷ Deliver 0 2 ∷ Suspect 1 0 ∷ Deliver 2 1 ∷ Deliver 2 2 ∷ Deliver 3 1 ∷ Deliver 4 1 ∷ Deliver 5 1
@@ -70,7 +71,8 @@ report-wrong_suspicion_keeps_the_command : report three (replay three wrong_susp
 unfolding numbers_below instances most_messages most_events
 report-wrong_suspicion_keeps_the_command = refl
 
--- a suggestion comes where no-op is decided: nobody answers it, and it is suggested again
+-- A suggestion arrives at an instance that decided no-op. No server accepts it, and the owner suggests its command
+-- again.
 abbrev pub late_suggestion_where_noop_is_decided : List Event
 late_suggestion_where_noop_is_decided =
     Suspect 1 0 ∷ Deliver 0 1 ∷ Deliver 0 2 ∷ Deliver 1 1 ∷ Deliver 2 1 ∷ Deliver 3 1 ∷ Deliver 3 2 ∷ Deliver 4 1
@@ -81,7 +83,7 @@ report-late_suggestion_where_noop_is_decided : report three (replay three late_s
 unfolding numbers_below instances most_messages most_events
 report-late_suggestion_where_noop_is_decided = refl
 
--- and there, further on, it is decided
+-- The command that was suggested again is decided at a later instance.
 abbrev pub late_suggestion_decided_further_on : List Event
 late_suggestion_decided_further_on =
     late_suggestion_where_noop_is_decided
@@ -93,7 +95,7 @@ report-late_suggestion_decided_further_on : report three (replay three late_sugg
 unfolding numbers_below instances most_messages most_events
 report-late_suggestion_decided_further_on = refl
 
--- two servers revoke one instance at once: the greater ballot goes on
+-- Two servers revoke the same instance at the same time. The greater ballot succeeds.
 abbrev pub duelling_revokers : List Event
 duelling_revokers =
     Suspect 1 0 ∷ Suspect 2 0 ∷ Deliver 0 1 ∷ Deliver 0 0 ∷ Deliver 2 1 ∷ Deliver 3 1 ∷ Deliver 1 0 ∷ Deliver 4 0
@@ -105,7 +107,8 @@ report-duelling_revokers : report three (replay three duelling_revokers)
 unfolding numbers_below instances most_messages most_events
 report-duelling_revokers = refl
 
--- a command that was executed already survives a wrong suspicion: the revoker hears of it and proposes it
+-- A command that was already executed survives a wrong suspicion. The revoker learns of it from a promise, and proposes
+-- it.
 abbrev decided_command_survives : List Event
 decided_command_survives =
     Submit 0 set_a ∷ Deliver 0 0 ∷ Deliver 0 2 ∷ Deliver 1 0 ∷ Deliver 2 0 ∷ Execute 0 ∷ Suspect 1 0 ∷ Deliver 4 1
@@ -116,7 +119,7 @@ report-decided_command_survives : report three (replay three decided_command_sur
 unfolding numbers_below instances most_messages most_events
 report-decided_command_survives = refl
 
--- a suggestion that reached nobody is revoked, and made again
+-- A suggestion that no server heard is revoked, and its command is suggested again.
 abbrev revoked_and_suggested_again : List Event
 revoked_and_suggested_again =
     Submit 0 set_a ∷ Lose 0 1 ∷ Lose 0 2 ∷ Suspect 1 0 ∷ Deliver 1 1 ∷ Deliver 1 2 ∷ Deliver 2 1 ∷ Deliver 3 1
@@ -127,7 +130,7 @@ report-revoked_and_suggested_again : report three (replay three revoked_and_sugg
 unfolding numbers_below instances most_messages most_events
 report-revoked_and_suggested_again = refl
 
--- a suggestion passes over an own instance that was learned already
+-- A server passes over an own instance that it has already learned, and suggests at its next own instance.
 abbrev submit_passes_a_learned_instance : List Event
 submit_passes_a_learned_instance =
     Suspect 1 0 ∷ Deliver 0 1 ∷ Deliver 0 2 ∷ Deliver 1 1 ∷ Deliver 2 1 ∷ Deliver 3 1 ∷ Deliver 3 2 ∷ Deliver 4 1
@@ -138,7 +141,7 @@ report-submit_passes_a_learned_instance : report three (replay three submit_pass
 unfolding numbers_below instances most_messages most_events
 report-submit_passes_a_learned_instance = refl
 
--- who learned the instance answers a Prepare with what it learned
+-- A server that has learned the instance responds to a Prepare with a Learn.
 abbrev prepare_answered_with_learn : List Event
 prepare_answered_with_learn = one_command ++ (Suspect 1 0 ∷ Deliver 4 0 ∷ Deliver 5 1 ∷ Execute 1 ∷ [])
 
@@ -147,7 +150,7 @@ report-prepare_answered_with_learn : report three (replay three prepare_answered
 unfolding numbers_below instances most_messages most_events
 report-prepare_answered_with_learn = refl
 
--- promises at a ballot that is no longer tried count for nothing
+-- Promises at a ballot that is no longer tried do not count.
 abbrev stale_promises : List Event
 stale_promises =
     Suspect 1 0 ∷ Deliver 0 2 ∷ Deliver 0 1 ∷ Suspect 1 0 ∷ Deliver 1 1 ∷ Deliver 2 1 ∷ Deliver 3 1 ∷ Deliver 3 0
@@ -159,42 +162,42 @@ report-stale_promises = refl
 
 -- ---- replies
 
--- the empty map holds nothing at the key `a`
+-- The empty map holds no text at the key `a`.
 pub nothing : finite.get (map_after []) (97 ∷ []) ≡ None
 nothing = get-empty {X = List ℕ} (slice_cmp nat_cmp) (97 ∷ [])
 
--- and after the first command it holds `x` there
+-- After the first command, the map holds `x` at the key `a`.
 pub text_x : finite.get (map_after (set_a ∷ [])) (97 ∷ []) ≡ Some (120 ∷ [])
 text_x = get-insert nat_list_cmp_total (map_after []) (97 ∷ []) (120 ∷ []) (97 ∷ [])
 
--- the reply of client 1's first command
+-- The reply of client 1's first command.
 abbrev reply_in : Result Trace Refusal → Option Answered
 reply_in (Err r) = None
 reply_in (Ok w) = reply_of w (record { client = 1; number = 0 })
 
--- executed by its home: nothing stood at the key
+-- In `one_command`, the home executed the command, and the key held no text before.
 reply-one_command : reply_in (replay three one_command) ≡ Some (Given None)
 unfolding numbers_below instances most_messages most_events
 reply-one_command = ap (λ o. Some (Given o)) nothing
 
--- suggested again, and executed by nobody
+-- In `late_suggestion_where_noop_is_decided`, the command was suggested again, but no server has executed it.
 reply-late_suggestion_where_noop_is_decided : reply_in (replay three late_suggestion_where_noop_is_decided)
     ≡ Some Pending
 unfolding numbers_below instances most_messages most_events
 reply-late_suggestion_where_noop_is_decided = refl
 
--- executed further on
+-- In `late_suggestion_decided_further_on`, the command was executed at a later instance.
 reply-late_suggestion_decided_further_on : reply_in (replay three late_suggestion_decided_further_on)
     ≡ Some (Given None)
 unfolding numbers_below instances most_messages most_events
 reply-late_suggestion_decided_further_on = ap (λ o. Some (Given o)) nothing
 
--- nobody submitted it
+-- In `duelling_revokers`, no client submitted the command.
 reply-duelling_revokers : reply_in (replay three duelling_revokers) ≡ None
 unfolding numbers_below instances most_messages most_events
 reply-duelling_revokers = refl
 
--- a command that reads what another server's command wrote, and is answered at its own home
+-- The command reads a key that another server's command wrote. It gets its reply at its own home.
 abbrev pub get_a : Command
 get_a = record { id = record { client = 2; number = 0 }; op = Get (97 ∷ []) }
 

@@ -1,4 +1,4 @@
--- Whatever a server heard, each message that it sends may be heard wherever it goes.
+-- Each message that a server sends may be heard at every server that it goes to, even if the sender is at no trace.
 use Rattle.std.proofs.Common.{◌≡◌, ℕ, zero, suc, ◌+◌, ◌*◌, ◌%◌, ◌-◌, ◌<◌, ◌≤◌, Bool, true, false, cond, ltb, leb, max, List, [], ◌∷◌, Option, Some, None, map, filter, refl, inl, inr, arith}
 use Rattle.std.specs.Prelude.{◌&&◌}
 use Rattle.std.specs.List.{range_with_len}
@@ -48,7 +48,7 @@ module _ (m : Membership) where
       let near : (p + m.count - (i + 1) % m.count) % m.count < m.count = omega arith in
       omega arith
 
--- a suggestion and what is suggested again
+-- The suggestion of a new or a waiting ticket may be heard at every server.
 suggested_hearable : (s : ServerState) → s.id < s.members.count → (t : ℕ) (o : Option ℕ) → free_at s ≡ o
     → AreHearable s.members (submit_sent s t o)
 suggested_hearable s member t None e = nothing s.members
@@ -64,7 +64,7 @@ retry_addresses s member = again (first_waiting s) where
   again None = nothing s.members
   again (Some t) = submit_addresses s member t
 
--- first phases
+-- The ballot of a round above 0 is above 0, so the Prepares of a suspicion may be heard.
 next_above : (a n p : ℕ) → 0 < n → 0 < (a + 1) * n + p
 next_above a n p h = omega arith
 
@@ -87,7 +87,7 @@ pub suspect_addresses : SuspectAddresses
 unfolding numbers_below instances
 suspect_addresses s member q = prepared_hearable s member (is_covered_at s q) 0 instance_count (omega arith)
 
--- what is sent on a message
+-- All messages that a server sends when it hears a message may be heard.
 module _ (s : ServerState) (member : s.id < s.members.count) (few : s.members.count ≤ most_servers) where
   sender : ltb s.id s.members.count ≡ true
   sender = lt-ltb s.id s.members.count member

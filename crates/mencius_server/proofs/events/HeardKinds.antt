@@ -1,4 +1,4 @@
--- The other messages.
+-- Hearing a Learn, Prepare, Suggest, Accepted or Promise has the effect that the model gives to its delivery.
 use Rattle.std.proofs.Common.{◌≡◌, ℕ, ◌+◌, ◌<◌, ◌≤◌, Bool, true, false, List, [], ◌∷◌, ◌++◌, Option, Some, None, refl, sym, ◌∙◌, ap, subst, arith, cond, leb, ltb, eqb, ◌&&◌, ⊎_elim}
 use Rattle.std.specs.Prelude.{slice_get, is_none}
 use Rattle.std.proofs.lemmas.Bool.{ltb-true, leb-true, eqb-true, eq-eqb, ne_eqb, lt-ltb, cases_lt}
@@ -73,7 +73,7 @@ meets_learn m w k p q i z small e = learn_cases m w k p q i z small e (learned_v
 uncounted_prepare : (q i b : ℕ) (j c : ℕ) → IsUncounted j c (Prepare q i b)
 uncounted_prepare q i b j c = record { promise = λ r. refl; acceptance = λ r. refl; report = refl }
 
--- the state by the answer
+-- After a Prepare, the server has the slot that the slot's answer leaves.
 prepare_state : (m : Membership) (w : Trace) (p i b : ℕ) (answer : Answer) → i < instance_count
     → prepare_answer_from (promised_ballot w p i) (vote w p i) b (learned_value w p i) ≡ answer
     → after_prepare_at (server_at m w p) i b
@@ -140,12 +140,12 @@ meets_prepare m w k p q i b small e = prepare_cases m w k p q i b small e (learn
 uncounted_suggest : (q i t : ℕ) (j c : ℕ) → IsUncounted j c (Suggest q i t)
 uncounted_suggest q i t j c = record { promise = λ r. refl; acceptance = λ r. refl; report = refl }
 
--- after a Skip or none: an acceptance or none
+-- At the trace v, server p has the slots of the trace w and the front f.
 pub record IsSkipping (m : Membership) (w v : Trace) (p f : ℕ) : Type 0 where
   pub slots : (j : ℕ) → slot_at m v p j ≡ slot_at m w p j
   pub front : front m v p ≡ f
 
--- the slot once it accepted a ticket at ballot 0
+-- The slot after it accepts the ticket t at ballot 0.
 abbrev with_ticket : SlotState → ℕ → SlotState
 with_ticket s t = record s { promised = 0; vote = Some (record { ballot = 0; value = Ticket t }) }
 
@@ -181,7 +181,7 @@ suggest_skips m w k p q i t small e false behind = record {
   front = omega arith;
 }
 
--- its lines: a Skip or none, and an acceptance or none
+-- The lines of a suggestion, with a Skip if `a` is true, and an acceptance if `d` is true.
 abbrev suggest_lines : Membership → Trace → ℕ → ℕ → ℕ → Bool → Bool → List Line
 suggest_lines m w p q i a d =
     cond a (Sent (Skip p (front m w p) (first_owned m p (i + 1))) ∷ []) [] ++ cond d (Sent (Accepted p q i 0) ∷ []) []
@@ -202,7 +202,7 @@ suggest_learnings m w p q i true false = refl
 suggest_learnings m w p q i false true = refl
 suggest_learnings m w p q i false false = refl
 
--- the server after them
+-- After these lines, the server has the new front and has accepted the ticket if `d` is true.
 suggest_state : (m : Membership) (w : Trace) (k p q i t : ℕ) → i < instance_count
     → slice_get (sent_messages w) k ≡ Some (Suggest q i t) → proposal w i 0 ≡ Some (Ticket t)
     → (a d : Bool) → ltb (front m w p) i ≡ a → leb (promised_ballot w p i) 0 ≡ d
@@ -246,7 +246,7 @@ uncounted_accepted from to i b j c other = record { promise = λ r. refl; accept
 elsewhere : (i j b c : ℕ) → (j ≡ i → ⊥) → (eqb i j && eqb b c) ≡ false
 elsewhere i j b c ne = rw (ne_eqb i j (λ e. ne (sym e)))
 
--- p proposes at ballot 0 of its own instances alone
+-- A proposal at ballot b counts as p's own if p owns the instance or b is above 0.
 own_said : (m : Membership) (p i b : ℕ) (o : Option Value) → (b ≡ 0 → owner m i ≡ p) → if_own m p i b o ≡ o
 own_said m p i b o mine =
     ⊎_elim
@@ -254,7 +254,7 @@ own_said m p i b o mine =
     (λ (untried : b ≤ 0). let zero : b ≡ 0 = omega arith in rw (eq-eqb (owner m i) p (mine zero)))
     (cases_lt 0 b)
 
--- only the unlearned learn
+-- If a decision is due, the instance is unlearned.
 unlearned_learns : (o : Option Value) (a : Bool) (x : Option Value) (z : Value)
     → cond (is_none o && a) x None ≡ Some z → o ≡ None
 unlearned_learns None a x z e = refl
@@ -306,7 +306,7 @@ accepted_tried m w k p from i small e =
           ∙ learn_decided m w k p from i small e (due_decision (with_acceptance (slot_at m w p i) from)) refl;
     }
 
--- the row of the table is the slot's answer
+-- The slot and the trace give the same lines for a decision.
 accepted_lines : (m : Membership) (w : Trace) (k p from i : ℕ) → (tried_ballot w p i ≡ 0 → owner m i ≡ p)
     → slice_get (sent_messages w) k ≡ Some (Accepted from p i (tried_ballot w p i))
     → decision_lines p i (due_decision (with_acceptance (slot_at m w p i) from))
@@ -374,7 +374,7 @@ counts_proposal : (p i b : ℕ) (o : Option Value) → 0 ≡ learned_count (prop
 counts_proposal p i b None = refl
 counts_proposal p i b (Some x) = refl
 
--- only where nothing was proposed is there a proposal
+-- If a proposal is due, nothing was proposed before.
 unsaid_proposes : (a d : Bool) (o x : Option Value) (z : Value) → cond ((a && is_none o) && d) x None ≡ Some z
     → o ≡ None
 unsaid_proposes true d None x z e = refl
@@ -415,7 +415,7 @@ propose_decided m w k p from i r small high voted e (Some x) decided =
           voted.proposal b (sym (greater_ballot-none (accepted_ballot w p i)) ∙ e) in (said.0, rw said.1);
     }
 
--- the row of the table is the slot's answer
+-- The slot and the trace give the same lines for a proposal.
 promise_lines : (m : Membership) (w : Trace) (k p from i : ℕ) (o : Option Vote) → 0 < tried_ballot w p i
     → slice_get (sent_messages w) k ≡ Some (Promise from p i (tried_ballot w p i) o)
     → proposal_lines p i (tried_ballot w p i) (due_proposal (with_promise (slot_at m w p i) from o))

@@ -1,4 +1,4 @@
--- What a server does on a message is what the model says.
+-- Hearing a message has the effect that the model gives to its delivery.
 use Rattle.std.proofs.Common.{◌≡◌, ℕ, List, ◌∷◌, Some, length, ap, subst, sym, ◌∙◌, true}
 use Rattle.mencius_model.specs.Rules.{proposal_lines, decision_lines}
 use Rattle.std.specs.Prelude.{slice_get, IsTrue}
@@ -25,7 +25,7 @@ use Rattle.mencius_model.proofs.trace.Parts.{delivery}
 voted_at : (m : Membership) (w : Trace) (p i : ℕ) → HasServerFacts m w → IsVoted w p i
 voted_at m w p i facts = record { proposal = λ b e. facts.voted p i b e }
 
--- what is addressed to a server goes to it, within all bounds
+-- A message for a server goes to it, and its numbers are within the limits.
 pub within_of : (m : Membership) (p : ℕ) (x : Message) → IsTrue (is_for m p x) → is_within m x ≡ true
 within_of m p x addressed = (and_parts _ _ (and_parts _ _ addressed).1).1
 
@@ -72,7 +72,7 @@ meets_any m w k p (Learn from inst value) facts addressed e =
     let known = and_parts _ _ (within_of m p (Learn from inst value) addressed) in
     meets_learn m w k p from inst value (ltb-true _ _ known.1) e
 
--- the row of the event has the message's lines
+-- The lines of a delivery are the lines of the delivered message.
 delivery_row : (w : Trace) (s : ServerState) (k : ℕ) (x : Message) → slice_get (sent_messages w) k ≡ Some x
     → on_message s.members w (Heard k s.id ∷ w) s.id x ≡ lines s.members w (Deliver k s.id)
 delivery_row w s k x heard = ap (delivery s.members w (Heard k s.id ∷ w) s.id) (sym heard)

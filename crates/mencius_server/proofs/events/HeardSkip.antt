@@ -1,4 +1,4 @@
--- A Skip.
+-- Hearing a Skip has the effect that the model gives to its delivery.
 use Rattle.std.proofs.Common.{◌≡◌, ℕ, ◌+◌, ◌<◌, ◌≤◌, Bool, true, false, List, [], ◌∷◌, Option, Some, None, map, refl, sym, ◌∙◌, ap, arith, cond, eqb, zero, suc, add-zero, ◌&&◌, ◌||◌, ⊎_elim}
 use Rattle.std.specs.Option.{option_or}
 use Rattle.std.specs.Prelude.{slice_get, is_none}
@@ -29,7 +29,7 @@ use Rattle.mencius_model.proofs.trace.Parts.{is_newly_skipped, on_skip}
 abbrev noop_at : ℕ → ℕ → Line
 noop_at p j = Learned p j Noop
 
--- the first value that is learned stays
+-- A slot that learns a value keeps the first value that it learned.
 after_learn_is : (s : SlotState) (z : Value) (o : Option Value) → s.learned ≡ o
     → after_learn s z ≡ record s { learned = option_or s.learned (Some z) }
 after_learn_is s z None e =
@@ -40,7 +40,8 @@ after_learn_is s z (Some x) e =
     ∙ ap (λ (o : Option Value). record s { learned = o }) e
     ∙ ap (λ (o : Option Value). record s { learned = option_or o (Some z) }) (sym e)
 
--- one more line, for a slot that may know already
+-- A line about learning no-op at i changes the slot of i in the same way as learning no-op, even if i was learned
+-- before. It changes no other slot.
 noop_cases : (m : Membership) (v : Trace) (p i j : ℕ) (a : Bool) → eqb i j ≡ a
     → slot_at m (Learned p i Noop ∷ v) p j ≡ cond a (after_learn (slot_at m v p j) Noop) (slot_at m v p j)
 noop_cases m v p i j true e =
@@ -65,7 +66,8 @@ after_learn-twice x =
     ∙ ap (λ (o : Option Value). record x { learned = o }) (option_or-twice x.learned Noop)
     ∙ sym (after_learn_is x Noop x.learned refl)
 
--- all the lines
+-- Lines about learning no-op at several instances change their slots in the same way as learning no-op, and change no
+-- other slot.
 learned_noops : (m : Membership) (p j : ℕ) (js : List ℕ) (v : Trace)
     → slot_at m (followed_by v (map (noop_at p) js)) p j
     ≡ cond (list_any (λ (i : ℕ). eqb i j) js) (after_learn (slot_at m v p j) Noop) (slot_at m v p j)
@@ -91,7 +93,7 @@ unsent_noops : (p : ℕ) (js : List ℕ) → [] ≡ messages_of (map (noop_at p)
 unsent_noops p [] = refl
 unsent_noops p (i ∷ js) = unsent_noops p js
 
--- the instances among those that pass are those that pass
+-- A number is in a filtered list exactly if it is in the list and passes the test.
 and-false : (a : Bool) → (a && false) ≡ false
 and-false true = refl
 and-false false = refl
@@ -168,7 +170,7 @@ count_by-instances_same : (f g : ℕ → Bool) → ((j : ℕ) → j < instance_c
 unfolding numbers_below instances
 count_by-instances_same f g e = counts_same f g 0 0 instance_count e
 
--- the test of the row, and the slot's
+-- Learning no-op if a test holds is the same as learning it if the test holds and the slot is unlearned.
 after_skip_either : (s : SlotState) (a : Bool) (o : Option Value) → s.learned ≡ o
     → cond a (after_learn s Noop) s ≡ cond (a && is_none s.learned) (after_learn s Noop) s
 after_skip_either s false o e = refl

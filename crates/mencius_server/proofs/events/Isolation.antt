@@ -1,4 +1,4 @@
--- What an accepted event leaves, in the words of the laws.
+-- The laws about the servers that an accepted event leaves as they were.
 use Rattle.std.proofs.Common.{◌≡◌, Option, None, Some, Ok, refl, ap, ◌∙◌}
 use Rattle.std.specs.Prelude.{Err}
 use Rattle.std.specs.Option.{option_map_or}

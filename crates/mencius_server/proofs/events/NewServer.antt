@@ -1,4 +1,4 @@
--- The server that has heard nothing is that of the empty trace, and keeps what every server keeps.
+-- A server that has heard nothing has its state at the empty trace, and satisfies the invariant of a server.
 use Rattle.std.proofs.Common.{◌≡◌, ℕ, ◌<◌, ◌≤◌, List, [], map, refl, sym, ◌∙◌, ap, arith}
 use Rattle.std.specs.Prelude.{replicate}
 use Rattle.std.proofs.lemmas.List.{length-replicate}
@@ -21,7 +21,7 @@ new_slots : (m : Membership) → replicate instance_count (new_slot m) ≡ map (
 new_slots m = map-below_constant (λ (j : ℕ). new_slot m) instance_count (new_slot m) (λ i h. refl)
     ∙ ap (map (λ (j : ℕ). new_slot m)) (sym instances-below)
 
--- what callers see of a server that knows nothing
+-- If a server knows nothing about any instance, callers see a new server.
 pub new_shown : (m : Membership) (p : ℕ) (s : InstancesState) → s ≡ new_instances m
     → record { members = m; id = p; front = p; slots = s.slots } ≡ new_server m p
 new_shown m p s made =

@@ -1,4 +1,4 @@
--- An event of one server leaves the others as they were.
+-- An event of one server leaves all other servers as they were.
 use Rattle.std.proofs.Common.{◌≡◌, ℕ, ◌<◌, Bool, true, false, List, [], ◌∷◌, Option, None, eqb, ltb, max, refl, sym, ◌∙◌, ap, inl, ◌&&◌}
 use Rattle.std.specs.Prelude.{nat_le}
 use Rattle.std.proofs.lemmas.Bool.{and_parts, eqb-true, ltb-true, ne_eqb}
@@ -35,7 +35,7 @@ module _ (p q : ℕ) (ne : p ≡ q → ⊥) where
   not_q : (from : ℕ) → from ≡ p → eqb from q ≡ false
   not_q from e = ne_eqb from q (λ h. ne (sym e ∙ h))
 
-  -- all but a proposal is quiet
+  -- Each line of server p is quiet for the slots of server q, unless it is a proposal.
   module _ (m : Membership) (w : Trace) (i : ℕ) where
     skip_quiet : (from first stop : ℕ) → IsQuiet q i (Sent (Skip from first stop))
     skip_quiet from first stop =
@@ -67,7 +67,7 @@ module _ (p q : ℕ) (ne : p ≡ q → ⊥) where
     voted grown =
         record { proposal = λ b e. let r = accepted_in w q i b e in accepted_proposed m w grown q r.0 i b r.1 }
 
-    -- a proposal of another is at no ballot that q tries
+    -- A suggestion of server p changes no proposal at a ballot that server q tries.
     suggest_other : (from j t b : ℕ) → owner m j ≡ p → (a : Bool) → (eqb j i && eqb b 0) ≡ a
         → if_own m q i b (proposal (Sent (Suggest from j t) ∷ w) i b) ≡ if_own m q i b (proposal w i b)
     suggest_other from j t b own true e =
@@ -171,7 +171,7 @@ module _ (p q : ℕ) (ne : p ≡ q → ⊥) where
   servers_other m (l ∷ ls) w grown may by =
       server_other m w l (grown, may.0) by.0 ∙ servers_other m ls (l ∷ w) (grown, may.0) may.1 by.1
 
--- an event that is not refused leaves every server but its own as it was
+-- An event that is not refused leaves every server as it was, except the server of the event.
 pub others_stay : (m : Membership) (w : Trace) (e : Event) → IsReached m w → refusal_cause m w e ≡ None → (q : ℕ)
     → (server_of e ≡ q → ⊥)
     → server_at m (with_event m w e) q ≡ server_at m w q
@@ -181,7 +181,7 @@ others_stay m w e r allowed q ne =
     let may = step_may m w e grown none.1 in
     sym (servers_other (server_of e) q ne m (head e ∷ lines m w e) w grown may (head_by e, lines_by m w e))
 
--- a loss or an execution leaves every server as it was
+-- A loss or an execution leaves every server as it was.
 pub loss_stays : (m : Membership) (w : Trace) (k p q : ℕ)
     → server_at m (with_event m w (Lose k p)) q ≡ server_at m w q
 loss_stays m w k p q =

@@ -1,4 +1,4 @@
--- How the lines of an event change a server.
+-- The effect of the lines of an event on the state of a server, and hearing a Propose.
 use Rattle.std.proofs.Common.{◌≡◌, ℕ, ◌<◌, ◌≤◌, Bool, true, false, List, [], ◌∷◌, Some, refl, sym, ◌∙◌, ap, arith, cond, leb}
 use Rattle.mencius_model.specs.Rules.{acceptance_lines}
 use Rattle.std.specs.Prelude.{slice_get}
@@ -32,7 +32,8 @@ same_front : (m : Membership) (p f g : ℕ) (xs ys : List SlotState) → f ≡ g
     (record { members = m; id = p; front = g; slots = ys })
 same_front m p f g xs ys e h = rw (e, h)
 
--- one slot and the front have changed
+-- If one slot and the front are the only changes between two traces, the server's state changes only in this slot and
+-- the front.
 pub server_written : (m : Membership) (w v : Trace) (p i f : ℕ) (s : SlotState) → front m v p ≡ f
     → slot_at m v p i ≡ s
     → ((j : ℕ) → (j ≡ i → ⊥) → slot_at m v p j ≡ slot_at m w p j)
@@ -41,20 +42,21 @@ server_written m w v p i f s ahead here there =
     same_front m p _ _ _ _ (sym ahead)
     (map-instances_set (slot_at m w p) (slot_at m v p) i s (new_slot m) here (λ j h ne. sym (there j ne)))
 
--- nothing has changed
+-- If the front and all slots are the same at two traces, the server's state is the same.
 pub server_unchanged : (m : Membership) (w v : Trace) (p : ℕ) → front m v p ≡ front m w p
     → ((j : ℕ) → slot_at m v p j ≡ slot_at m w p j) → server_at m w p ≡ server_at m v p
 server_unchanged m w v p ahead there =
     same_front m p _ _ _ _ (sym ahead)
     (map-instances_same (slot_at m w p) (slot_at m v p) (new_slot m) (λ j h. sym (there j)))
 
--- what a server does on a message is these lines
+-- When server p hears the message x, its messages, the number of learned instances and its new state agree with the
+-- lines `ls`.
 pub record Meets (m : Membership) (w : Trace) (k p : ℕ) (x : Message) (ls : List Line) : Type 0 where
   pub sends : sent_on (server_at m w p) x ≡ messages_of ls
   pub learns : learned_on (server_at m w p) x ≡ learned_count ls
   pub state : after_hearing (server_at m w p) x ≡ server_at m (followed_by (Heard k p ∷ w) ls) p
 
--- an acceptance after a message that is in no set
+-- After p hears a message that no set counts, and accepts a ballot, the ballot is the promise and the vote of its slot.
 accepting : (m : Membership) (w : Trace) (k p q i b : ℕ) (z : Value) (x : Message) → slice_get (sent_messages w) k
     ≡ Some x
     → ((j c : ℕ) → IsUncounted j c x)
@@ -77,7 +79,7 @@ accepting_elsewhere m w k p q i b j x e un ne =
 uncounted_propose : (q i b : ℕ) (z : Value) (j c : ℕ) → IsUncounted j c (Propose q i b z)
 uncounted_propose q i b z j c = record { promise = λ r. refl; acceptance = λ r. refl; report = refl }
 
--- the state by whether the ballot is accepted
+-- The state after a Propose, in the two cases of the test whether the ballot is accepted.
 propose_state : (m : Membership) (w : Trace) (p i b : ℕ) (z : Value) (a : Bool) → i < instance_count
     → leb (promised_ballot w p i) b ≡ a
     → after_propose (server_at m w p) i b z ≡ with_slot (server_at m w p) i

@@ -1,4 +1,4 @@
--- What a server does on a submission is what the model says.
+-- A submission and a retry have the effects that the model gives to these events.
 use Rattle.std.proofs.Common.{◌≡◌, ℕ, ◌+◌, ◌<◌, ◌≤◌, List, ◌∷◌, Option, Some, None, leb, eqb, max, refl, sym, ◌∙◌, ap, arith}
 use Rattle.std.specs.Prelude.{is_none, ◌&&◌, slice_get}
 use Rattle.std.proofs.lemmas.Bool.{and_parts, eq-eqb, eqb-true, leb-true}
@@ -29,14 +29,14 @@ use Rattle.mencius_model.proofs.reached.ServerFacts.{HasServerFacts, server_fact
 use Rattle.mencius_base.specs.Limits.{instance_count}
 use Rattle.mencius_model.proofs.trace.Parts.{is_free, retry_lines}
 
--- the server finds the free instance that the trace has
+-- The free instance of a server at a trace is the free instance of that trace.
 free-server_at : (m : Membership) (w : Trace) (p : ℕ) → free_at (server_at m w p) ≡ free_instance m w p
 free-server_at m w p =
     find-instances_same (is_free_at (server_at m w p)) (is_free m w p)
     (λ j h. ap (λ (s : SlotState). (eqb (owner m j) p && leb (front m w p) j) && is_none s.learned)
     (slot-server_at m w p j h))
 
--- the first line of an event of p's own
+-- The first line of an event at p leaves p's slots, heard messages and front as they were.
 pub record IsHead (m : Membership) (p : ℕ) (l : Line) : Type 0 where
   pub quiet : (i : ℕ) → IsQuiet p i l
   pub deaf : (w : Trace) → heard_messages (l ∷ w) p ≡ heard_messages w p

@@ -1,4 +1,4 @@
--- What a server does on a suspicion is what the model says.
+-- A suspicion has the effect that the model gives to this event.
 use Rattle.std.proofs.Common.{◌≡◌, ℕ, ◌+◌, ◌<◌, Bool, true, false, List, [], ◌∷◌, Option, Some, None, cond, eqb, filter, inl, inr, leb, length, ltb, map, max, refl, sym, ◌∙◌, ap, arith, ◌&&◌, ◌||◌}
 use Rattle.std.specs.Prelude.{is_none, slice_get}
 use Rattle.std.specs.List.{list_any, fold}
@@ -34,7 +34,7 @@ use Rattle.mencius_server.proofs.events.ServerTrace.{slot-server_at}
 use Rattle.mencius_base.specs.Limits.{greatest_round, instance_count}
 use Rattle.mencius_model.proofs.trace.Parts.{vote_of, is_open, is_covered}
 
--- a line that says nothing but which ballot is tried
+-- A line that changes nothing at instance j of server p, except possibly the tried ballot.
 record IsTried (p j : ℕ) (l : Line) : Type 0 where
   promised : promised_by p j l ≡ 0
   proposed : (b : ℕ) → proposal_by j b l ≡ None
@@ -70,7 +70,7 @@ prepared_same m w0 p j b (i ∷ js) v =
 abbrev ballot_for : Membership → Trace → ℕ → ℕ → ℕ
 ballot_for m w p j = ballot_of m (next_round m w p j) p
 
--- which ballot is tried after the lines
+-- A Prepare at instance i changes the tried ballot of i to the greater ballot, and changes no other tried ballot.
 tried_cond : (p i j b x : ℕ) (f : ℕ → ℕ) (a : Bool) → eqb i j ≡ a
     → max x (cond (eqb p p && eqb i j) (f i) 0) ≡ cond a (max x (f j)) x
 tried_cond p i j b x f true e = rw (same p, e, eqb-true i j e) refl
@@ -108,7 +108,7 @@ sends_prepared m w p [] = refl
 sends_prepared m w p (j ∷ js) =
     ap (λ (ms : List Message). Prepare p j (ballot_for m w p j) ∷ ms) (sends_prepared m w p js)
 
--- what a suspicion covers up to its reach is what it covers before the stop
+-- A suspicion covers the same instances by its reach as by the place where the reach stops.
 covered_before : (m : Membership) (q j : ℕ) (o : Option ℕ) (s : SlotState)
     → is_covered_in m q (stop_of o) j s ≡ is_covered_from m q o j s.learned
 covered_before m q j o s = ap (λ (a : Bool). (eqb (owner m j) q && a) && is_none s.learned) (before o) where

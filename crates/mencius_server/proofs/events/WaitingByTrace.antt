@@ -1,4 +1,4 @@
--- Which tickets wait is what the trace says.
+-- The same tickets wait by the server's state as by the trace.
 use Rattle.std.proofs.Common.{◌≡◌, ℕ, ◌<◌, Bool, true, false, Option, Some, None, cond, eqb, ltb, ◌&&◌, ◌||◌, not, refl, sym, ◌∙◌, ap}
 use Rattle.std.specs.Prelude.{if◌then◌else◌, slice_get}
 use Rattle.std.specs.List.{list_any}
@@ -42,7 +42,7 @@ module _ (m : Membership) (w : Trace) (p : ℕ) (r : IsReached m w) where
   grown : IsGrown m w
   grown = reached_grown m w r
 
-  -- the server's first suggestion at an instance is its only one
+  -- A suggestion of the server at an instance is its only suggestion there.
   suggested_is : (i t : ℕ) → IsIn (Sent (Suggest p i t)) w → suggested_ticket w p i ≡ Some t
   suggested_is i t h = go (suggested_ticket w p i) refl where
     go : (o : Option ℕ) → suggested_ticket w p i ≡ o → suggested_ticket w p i ≡ Some t
@@ -86,7 +86,7 @@ module _ (m : Membership) (w : Trace) (p : ℕ) (r : IsReached m w) where
       ap (λ (s : SlotState). cond (eqb (owner m i) p) (ticket_of s.proposal) None) (slot-server_at m w p i small)
       ∙ ticket_at i (eqb (owner m i) p) refl
 
-  -- nowhere further on
+  -- A ticket was suggested at a later instance by the server's state exactly if it was by the trace.
   past_same : (i t : ℕ)
       → list_any (is_suggested_again (server_at m w p) t i) instances ≡ list_any (is_suggested_again_by p t i) w
   past_same i t =

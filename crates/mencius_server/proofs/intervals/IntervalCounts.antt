@@ -1,4 +1,4 @@
--- How many of a server's instances lie in intervals.
+-- The number of a server's instances in its intervals follows from the length of the intervals.
 use Rattle.std.proofs.Common.{◌≡◌, ℕ, zero, suc, ◌+◌, ◌*◌, ◌/◌, ◌%◌, ◌<◌, ◌≤◌, Bool, true, false, cond, ◌&&◌, ◌||◌, List, [], ◌∷◌, eqb, min, add-zero, refl, sym, ◌∙◌, ap, arith, ⊎_elim}
 use Rattle.std.specs.List.{count_by}
 use Rattle.std.proofs.Math.Nat.{div-add-mod, mul-le-mul_left, mod-eq_of_lt, add-mod_right}
@@ -15,7 +15,7 @@ use Rattle.mencius_server.proofs.intervals.RisingIntervals.{within_before, withi
 abbrev pub bit : Bool → ℕ
 bit a = cond a 1 0
 
--- a test that is one of two, and never both
+-- If a test splits into two tests that never both hold, its count is the sum of their counts.
 pub count_split : (f g h : ℕ → Bool) (n : ℕ) → ((j : ℕ) → j < n → bit (f j) ≡ bit (g j) + bit (h j))
     → count_by f (numbers_below n) ≡ count_by g (numbers_below n) + count_by h (numbers_below n)
 count_split f g h zero e = omega (arith, count_by-below_zero f, count_by-below_zero g, count_by-below_zero h)
@@ -37,7 +37,8 @@ and-true : (a : Bool) → (a && true) ≡ a
 and-true true = refl
 and-true false = refl
 
--- as many as pass below the interval's end, less those before it, pass below n and lie in the interval
+-- The number of places below n that pass a test and lie in an interval is the difference of two counts. They count the
+-- places that pass the test below `stop` and below `first`, with both ends cut at n.
 abbrev IsCountWithin : (ℕ → Bool) → ℕ → ℕ → ℕ → Type 0
 IsCountWithin test first stop n =
     count_by (λ j. test j && is_between first stop j) (numbers_below n) + count_by test (numbers_below (min n first))
@@ -87,7 +88,7 @@ module _ (test : ℕ → Bool) (first stop n : ℕ) (before : IsCountWithin test
       rw (a_now, b_now) at before in
       rw (a_next, b_next) (omega (arith, more, none, old))
 
--- what passes and lies in an interval
+-- The number of places below n that pass a test and lie in an interval is this difference, for every n.
 pub count_within : (test : ℕ → Bool) (first stop n : ℕ) → first ≤ stop → IsCountWithin test first stop n
 count_within test first stop zero h =
     let low : min 0 first ≡ 0 = omega arith in
@@ -109,7 +110,7 @@ count_within test first stop (suc n) h =
 abbrev pub owned_below : Membership → ℕ → ℕ → ℕ
 owned_below m q j = count_by (λ i. eqb (owner m i) q) (numbers_below j)
 
--- an instance of q is its own first one from there on
+-- The first instance of q at or above an instance of q is that instance.
 pub first_owned_here : (m : Membership) (q j : ℕ) → q < m.count → owner m j ≡ q → first_owned m q j ≡ j
 first_owned_here m q j member own =
     let least = first_owned_least m q j j member (omega arith) own in
@@ -118,7 +119,7 @@ first_owned_here m q j member own =
 one_round : (n x : ℕ) → n * (x + 1) ≡ n * x + n
 one_round n x = grind arith
 
--- two instances of one server lie a whole round apart
+-- Two instances of one server are at least n apart in a cluster of n servers.
 pub apart : (n q x j : ℕ) → x % n ≡ q → j % n ≡ q → j < x → j + n ≤ x
 apart n q x j here there less =
     let x_is : n * (x / n) + q ≡ x = ap (λ r. n * (x / n) + r) (sym here) ∙ div-add-mod x n in
@@ -132,7 +133,8 @@ apart n q x j here there less =
 mul-zero : (n : ℕ) → n * 0 ≡ 0
 mul-zero n = grind arith
 
--- below the place behind an own instance there is one more
+-- If `owned_place` holds at an instance of q, it holds at the place after it. There, the number of q's instances below
+-- is one greater.
 past_own : (m : Membership) (q j : ℕ) → q < m.count → owner m j ≡ q
     → m.count * owned_below m q j + q ≡ first_owned m q j
     → m.count * owned_below m q (j + 1) + q ≡ first_owned m q (j + 1)
@@ -148,7 +150,8 @@ past_own m q j member mine before =
     ap (λ x. m.count * x) (more ∙ ap (λ x. owned_below m q j + x) one) ∙ one_round m.count (owned_below m q j) in
     omega (arith, count, before, here, far, least)
 
--- behind another's there are as many as before it
+-- If `owned_place` holds at an instance of another server, it holds at the place after it. There, the number of q's
+-- instances below is the same.
 past_other : (m : Membership) (q j : ℕ) → q < m.count → (owner m j ≡ q → ⊥)
     → m.count * owned_below m q j + q ≡ first_owned m q j
     → m.count * owned_below m q (j + 1) + q ≡ first_owned m q (j + 1)
@@ -169,7 +172,8 @@ past_other m q j member other before =
     ap (λ x. m.count * x) (more ∙ ap (λ x. owned_below m q j + x) none ∙ add-zero (owned_below m q j)) in
     omega (arith, count, before, up, down)
 
--- how many instances of q there are below a place, by its first one from there on
+-- The number of q's instances below a place, times the number of servers, plus q, is q's first instance at or above
+-- that place.
 pub owned_place : (m : Membership) (q : ℕ) → q < m.count → (j : ℕ) → m.count * owned_below m q j + q ≡ first_owned m q j
 owned_place m q member zero =
     let none = count_by-below_zero (λ i. eqb (owner m i) q) in
@@ -189,7 +193,8 @@ owned_place m q member (suc j) =
 
 -- ---- intervals
 
--- a place at which an interval of q may end, as far as there are instances below a place
+-- The number of q's instances below both n and `stop`, times the number of servers, plus q, is `stop`. The place `stop`
+-- is an instance of q, and at most the first one at or above n.
 end_place : (m : Membership) (q n stop : ℕ) → q < m.count → owner m stop ≡ q → stop ≤ first_owned m q n
     → m.count * owned_below m q (min n stop) + q ≡ stop
 end_place m q n stop member own low =
@@ -203,7 +208,7 @@ end_place m q n stop member own low =
     rw e (owned_place m q member stop ∙ first_owned_here m q stop member own))
     (cases_lt n stop)
 
--- an interval has an instance for each round from its first to its stop
+-- The number of q's instances in an interval, times the number of servers, is the length of the interval.
 pub count_interval : (m : Membership) (q n first stop : ℕ) → q < m.count → owner m first ≡ q → owner m stop ≡ q
     → first ≤ stop
     → stop ≤ first_owned m q n
@@ -227,7 +232,7 @@ count_interval m q n first stop member own_a own_b h low =
     distribute : (n x y : ℕ) → n * (x + y) ≡ n * x + n * y
     distribute n x y = grind arith
 
--- below a list of intervals, none has an instance
+-- A place below the lower bound of a list of intervals lies in none of them.
 in_any_before : (low : ℕ) (rs : List Interval) (j : ℕ) → IsRising low rs → j < low → is_in_any rs j ≡ false
 in_any_before low [] j h less = refl
 in_any_before low (r ∷ rs) j h less =
@@ -249,7 +254,8 @@ count_none (suc n) =
     let next : suc n ≡ n + 1 = omega arith in
     rw next (count_by-below_more (λ j. false) n ∙ add-zero _ ∙ count_none n)
 
--- so have all intervals of a server
+-- The number of q's instances in a list of its intervals, times the number of servers, is the total length of the
+-- intervals.
 pub count_covered : (m : Membership) (q n low : ℕ) (rs : List Interval) → q < m.count → IsRising low rs
     → IsOwned m q (first_owned m q n) rs
     → m.count * count_by (λ j. eqb (owner m j) q && is_in_any rs j) (numbers_below n) ≡ reach_of rs

@@ -1,4 +1,4 @@
--- An interval more of skipped instances: at how many instances it is news.
+-- The number of instances where a new skipped interval is news follows from the added length.
 use Rattle.std.proofs.Common.{◌≡◌, ℕ, ◌+◌, ◌*◌, ◌/◌, ◌<◌, ◌≤◌, Bool, true, false, ◌&&◌, ◌||◌, not, List, Option, eqb, sym, ◌∙◌, ap, arith, inl, inr}
 use Rattle.std.specs.Prelude.{nat_le, nat_lt}
 use Rattle.std.specs.List.{count_by}
@@ -25,11 +25,11 @@ more_or_old true false = omega arith
 more_or_old false true = omega arith
 more_or_old false false = omega arith
 
--- an instance that only the new interval has
+-- Whether an instance of the interval's server lies in the new interval and in no earlier interval.
 abbrev is_fresh : OwnedInterval → List Interval → ℕ → Bool
 is_fresh a rs j = eqb (owner a.members j) a.server && (is_between a.first a.stop j && not (is_in_any rs j))
 
--- what is covered now was covered, or is fresh
+-- An instance that is covered after the interval is added was covered before or is fresh, and not both.
 covered_split : (a : OwnedInterval) (rs : List Interval) (j : ℕ)
     → bit (eqb (owner a.members j) a.server && is_in_any (with_interval rs a.first a.stop) j)
     ≡ bit (eqb (owner a.members j) a.server && is_in_any rs j) + bit (is_fresh a rs j)
@@ -41,7 +41,7 @@ covered_split a rs j = go (eqb (owner a.members j) a.server)
     go true = rw (in_any_with_interval rs a.first a.stop j) (more_or_old (is_in_any rs j) (is_between a.first a.stop j))
     go false = omega arith
 
--- what is fresh was learned before, or is newly skipped
+-- A fresh instance was learned before or is newly skipped, and not both.
 fresh_split : (a : OwnedInterval) (rs : List Interval) (ss : List (Option SlotState)) (j : ℕ)
     → bit (is_fresh a rs j) ≡ bit (is_learned_before a rs ss j) + bit (is_newly_skipped_in a rs ss j)
 fresh_split a rs ss j =
@@ -60,7 +60,8 @@ fresh_split a rs ss j =
     split true false x y e = omega arith
     split false d x y e = omega arith
 
--- at how many instances the interval is news
+-- The added length, divided by the number of servers, is the number of fresh instances that were learned before plus
+-- the number of newly skipped instances.
 pub news_count : (a : OwnedInterval) (rs : List Interval) (ss : List (Option SlotState)) (further learned_before : ℕ)
     → a.server < a.members.count → owner a.members a.first ≡ a.server → owner a.members a.stop ≡ a.server
     → a.first < a.stop → a.stop ≤ first_owned a.members a.server instance_count → IsRising 0 rs
@@ -99,7 +100,7 @@ news_count a rs ss further learned_before member own_a own_b some low rising own
     distribute : (n x y : ℕ) → n * (x + y) ≡ n * x + n * y
     distribute n x y = grind arith
 
--- an interval that was covered is no news
+-- An interval that was covered before is news at no instance.
 pub old_news : (a : OwnedInterval) (rs : List Interval) (ss : List (Option SlotState))
     → ((j : ℕ) → a.first ≤ j → j < a.stop → is_in_any rs j ≡ true)
     → 0 ≡ count_by (is_newly_skipped_in a rs ss) instances

@@ -1,11 +1,12 @@
--- Intervals that rise: where an instance lies, and what an interval more makes of them.
+-- In rising intervals, an instance is found by a search, and an interval is added by joining it with the intervals that
+-- it meets.
 use Rattle.std.proofs.Common.{◌≡◌, ℕ, zero, suc, ◌+◌, ◌-◌, ◌<◌, ◌≤◌, Bool, true, false, ◌||◌, List, [], ◌∷◌, ◌++◌, length, ◌⊎◌, inl, inr, ⊎_elim, get_or, take, drop, min, max, refl, sym, ◌∙◌, ap, subst, arith, length-append}
 use Rattle.std.proofs.lemmas.Bool.{cases_lt, le-leb, le-ltb, lt-leb, lt-ltb, and_left, and_right}
 use Rattle.mencius_base.specs.Members.{Membership, owner}
 use Rattle.mencius_server.specs.declared.skipped_intervals.Interval.{Interval}
 use Rattle.mencius_server.specs.Intervals.{IsOwned, IsRising, is_between, is_in_any, reach_of, with_interval}
 
--- ---- lists that rise, by place
+-- ---- rising lists, by position
 
 pub rising_at : (low : ℕ) (rs : List Interval) → IsRising low rs → (n : ℕ) (d : Interval) → n < length rs
     → (low ≤ (get_or rs n d).first) × ((get_or rs n d).first < (get_or rs n d).stop)
@@ -33,7 +34,7 @@ rising_first low (r ∷ rs) h (suc m) zero d l below = absurd (omega arith)
 rising_first low (r ∷ rs) h (suc m) (suc n) d l below =
     rising_first (r.stop + 1) rs h.2 m n d (omega arith) (omega arith)
 
--- each begins past the end of those before it
+-- Each interval begins above the ends of all intervals before it.
 rising_gap : (low : ℕ) (rs : List Interval) → IsRising low rs → (m n : ℕ) (d : Interval) → m < n → n < length rs
     → (get_or rs m d).stop < (get_or rs n d).first
 rising_gap low [] h m n d l below = absurd (omega arith)
@@ -43,7 +44,7 @@ rising_gap low (r ∷ rs) h zero (suc n) d l below =
 rising_gap low (r ∷ rs) h (suc m) zero d l below = absurd (omega arith)
 rising_gap low (r ∷ rs) h (suc m) (suc n) d l below = rising_gap (r.stop + 1) rs h.2 m n d (omega arith) (omega arith)
 
--- a lower bound may be lowered
+-- The lower bound of a rising list may be lowered.
 pub rising_from : (low less : ℕ) (rs : List Interval) → less ≤ low → IsRising low rs → IsRising less rs
 rising_from low less [] le h = tt
 rising_from low less (r ∷ rs) le h = (omega (arith, h.0), h.1, h.2)
@@ -97,7 +98,7 @@ pub in_any_out : (rs : List Interval) (i : ℕ) (d : Interval)
 in_any_out [] i d h = refl
 in_any_out (r ∷ rs) i d h = rw (outside r i (h 0 (omega arith))) (in_any_out rs i d (λ n m. h (suc n) (omega arith)))
 
--- the end of an interval lies in none
+-- The end of an interval lies in no interval.
 pub open_stop : (rs : List Interval) → IsRising 0 rs → (at : ℕ) (d : Interval) → at < length rs
     → is_in_any rs (get_or rs at d).stop ≡ false
 open_stop rs h at d below = in_any_out rs (get_or rs at d).stop d (λ n within. ⊎_elim
@@ -105,7 +106,7 @@ open_stop rs h at d below = in_any_out rs (get_or rs at d).stop d (λ n within. 
     (λ (upto : n ≤ at). inl (rising_stop 0 rs h n at d upto below))
     (cases_lt at n))
 
--- nor does what lies past the end of those before it, and before the next one
+-- A place lies in no interval if all earlier intervals end at or below it and the next interval begins above it.
 pub open_between : (rs : List Interval) → IsRising 0 rs → (at i : ℕ) (d : Interval)
     → ((n : ℕ) → n < at → (get_or rs n d).stop ≤ i)
     → (at < length rs → i < (get_or rs at d).first) → is_in_any rs i ≡ false
@@ -115,9 +116,9 @@ open_between rs h at i d before next = in_any_out rs i d (λ n within. ⊎_elim
     inr (omega (arith, rises, ahead)))
     (cases_lt n at))
 
--- ---- one interval more
+-- ---- adding an interval
 
--- two intervals that meet make one
+-- Two intervals that meet cover the same places as the one interval that joins them.
 hull : (first stop start end j : ℕ) → first ≤ end → start ≤ stop
     → is_between (min first start) (max stop end) j ≡ (is_between start end j || is_between first stop j)
 hull first stop start end j h below =
@@ -149,7 +150,7 @@ hull first stop start end j h below =
     turn (inl x) = inr x
     turn (inr x) = inl x
 
--- what the tests of `with_interval` decide
+-- The results of `with_interval` in the cases of its tests.
 after_it : (r : Interval) (rs : List Interval) (f s : ℕ) → r.stop < f
     → with_interval (r ∷ rs) f s ≡ r ∷ with_interval rs f s
 after_it r rs f s h = rw (lt-ltb r.stop f h) refl
@@ -162,7 +163,7 @@ pub meeting_it : (r : Interval) (rs : List Interval) (f s : ℕ) → f ≤ r.sto
     → with_interval (r ∷ rs) f s ≡ with_interval rs (min f r.first) (max s r.stop)
 meeting_it r rs f s h below = rw (le-ltb r.stop f h, le-ltb s r.first below) refl
 
--- the three places where an interval may go
+-- The three positions of a new interval, which may lie above the interval r, lie below it, or meet it.
 IsPlace : Interval → ℕ → ℕ → Type 0
 IsPlace r f s = (r.stop < f) ⊎ ((f ≤ r.stop) × ((s < r.first) ⊎ (r.first ≤ s)))
 
@@ -238,7 +239,7 @@ owned_with_interval m q top (r ∷ rs) f s a same below h =
 
 -- ---- the loop that joins
 
--- the intervals that end before the new one stay
+-- The intervals that end below the new interval stay as they are.
 pub with_interval_from : (rs : List Interval) (at f s : ℕ) (d : Interval) → at ≤ length rs
     → ((n : ℕ) → n < at → (get_or rs n d).stop < f)
     → with_interval rs f s ≡ take at rs ++ with_interval (drop at rs) f s
@@ -248,12 +249,13 @@ with_interval_from (r ∷ rs) (suc at) f s d below h =
     after_it r rs f s (h 0 (omega arith))
     ∙ ap (λ xs. r ∷ xs) (with_interval_from rs at f s d (omega arith) (λ n l. h (suc n) (omega arith)))
 
--- the first of the intervals that are left ends at or past the place
+-- The first interval of the list, if any, ends at or above f.
 abbrev pub HeadPast : ℕ → List Interval → Type 0
 HeadPast f [] = Unit {0}
 HeadPast f (r ∷ rs) = f ≤ r.stop
 
--- the intervals up to a place stay, and those after it are absorbed one by one
+-- The invariant of the loop that joins. The intervals before the position `at` stay, and the union goes from f to s.
+-- The absorbed intervals have the total length `absorbed`.
 pub record IsJoining (old now : List Interval) (first stop at f s absorbed : ℕ) : Type 0 where
   pub within : at ≤ length now
   pub some : f < s
@@ -264,7 +266,7 @@ pub record IsJoining (old now : List Interval) (first stop at f s absorbed : ℕ
   pub past : HeadPast f (drop at now)
   pub bound : (absorbed ≡ 0) ⊎ ((absorbed + f + 1 ≤ low) × (low ≤ s + 1))
 
--- so far absorbed fits in the union
+-- The absorbed length is at most the length of the union.
 pub absorbed_fits : (old now : List Interval) (first stop at f s absorbed : ℕ)
     → IsJoining old now first stop at f s absorbed → absorbed ≤ s - f
 absorbed_fits old now first stop at f s absorbed h =
@@ -308,7 +310,7 @@ take_drop zero rs = refl
 take_drop (suc at) [] = refl
 take_drop (suc at) (r ∷ rs) = ap (λ xs. r ∷ xs) (take_drop at rs)
 
--- the list with the interval at a place, and with what stands around it
+-- The list from a position on consists of the interval at that position and the list after it.
 pub drop_here : (at : ℕ) (rs : List Interval) (d : Interval) → at < length rs
     → drop at rs ≡ get_or rs at d ∷ drop (suc at) rs
 drop_here zero [] d h = absurd (omega arith)
@@ -337,7 +339,7 @@ past_more : (low f : ℕ) (rs : List Interval) → f ≤ low → IsRising low rs
 past_more low f [] h rising = tt
 past_more low f (r ∷ rs) h rising = omega (arith, rising.0, rising.1)
 
--- one interval is absorbed
+-- The invariant of the loop still holds after another interval is absorbed.
 pub joining_more : (old now new : List Interval) (first stop at f s absorbed g y more : ℕ) (r : Interval)
     → at < length now
     → (get_or now at r) ≡ r → r.first ≤ s
@@ -376,7 +378,7 @@ joining_more old now new first stop at f s absorbed g y more r inside here meets
       ]);
     }
 
--- what is left begins past the union
+-- When the next interval begins above the union, the loop has added the interval, and returns the added length.
 pub joining_ends : (old now new : List Interval) (first stop at f s absorbed : ℕ) (union d : Interval)
     → union ≡ record { first = f; stop = s }
     → (at < length now → s < (get_or now at d).first) → new ≡ take at now ++ union ∷ drop at now

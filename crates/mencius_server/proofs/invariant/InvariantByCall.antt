@@ -1,4 +1,4 @@
--- Each call on what a server knows keeps what the server's fields keep.
+-- Each call on a server's instances keeps the invariant of the server.
 use Rattle.std.proofs.Common.{◌≡◌, ℕ, ◌+◌, ◌<◌, ◌≤◌, ◌⊎◌, ◌||◌, false, Some, get_or, length, min, refl, sym, ◌∙◌, ap, subst, arith}
 use Rattle.std.proofs.lemmas.Grind.{get_or-set_at}
 use Rattle.mencius_base.specs.declared.message.Value.TheVariants.{Ticket}
@@ -20,11 +20,11 @@ use Rattle.mencius_server.proofs.invariant.SlotFits.{FitsAt-promise, FitsAt-same
 use Rattle.mencius_base.specs.Limits.{instance_count, most_servers}
 use Rattle.mencius_model.specs.Rules.{is_noop}
 
--- what callers see of a server that knows this
+-- The state that callers see of a server with these instances.
 abbrev pub server_state : Membership → ℕ → ℕ → InstancesState → ServerState
 server_state m p f known = record { members = m; id = p; front = f; slots = known.slots }
 
--- a changed slot fits where the slot is stored
+-- If a slot fits at an instance, the slot still fits there after a change.
 FitsAt-slot_after_change : (s : ServerState) (f i : ℕ) (x : SlotState) (d : Change) → IsSaid s.members d
     → FitsAt s f i x
     → FitsAt s f i (slot_after_change x d)
@@ -37,12 +37,12 @@ FitsAt-slot_after_change s f i x (CountAcceptance from ballot) said fits = FitsA
     (SameAttempt-acceptance x from ballot) fits
 FitsAt-slot_after_change s f i x (Learn value) said fits = FitsAt-same s f i x _ (SameAttempt-learn x value) fits
 
--- the notes, once they have another place
+-- The invariant still holds if the notes are replaced by equal notes.
 noted_as : (s : ServerState) (m : Membership) (noted after : NotesState) → after ≡ noted → IsServerInside s m noted
     → IsServerInside s m after
 noted_as s m noted after same kept = subst (λ (n : NotesState). IsServerInside s m n) (sym same) kept
 
--- another place below which nothing is free
+-- The invariant still holds after the notes get another place below which no own instance is free.
 pub free_noted : (s : ServerState) (m : Membership) (n after : NotesState) (i : ℕ) → i ≤ instance_count
     → ((j : ℕ) → j < i → is_free_at s j ≡ false) → after ≡ record n { free_from = i } → IsServerInside s m n
     → IsServerInside s m after
@@ -65,7 +65,7 @@ module _ (m : Membership) (p f : ℕ) (s new : InstancesState) (before after : N
   slot_is : (i : ℕ) → instance_slot s i ≡ slot (server_state m p f s) i
   slot_is i = ap (λ (n : Membership). get_or s.slots i (new_slot n)) kept.members
 
-  -- a change of one slot
+  -- A change of one slot keeps the invariant.
   pub change_kept : (i l : ℕ) (d : Change) → i < instance_count → IsSaid m d
       → new ≡ with_instance_slot s i (slot_after_change (instance_slot s i) d)
       → l ≤ before.lost_from → (l ≤ i) ⊎ (owner m i ≡ p → is_noop (instance_slot new i).learned ≡ false)
@@ -88,7 +88,7 @@ module _ (m : Membership) (p f : ℕ) (s new : InstancesState) (before after : N
       (ap (λ (x : InstancesState). x.members) made)
       (put_keeps (server_state m p f s) s.members i f put before l early stays fits (omega arith) kept.server.near kept))
 
-  -- a Skip
+  -- A Skip keeps the invariant.
   pub skip_kept : (q first stop l : ℕ) → new ≡ instances_after_skip s q first stop
       → l ≤ before.lost_from → (l ≤ first) ⊎ (q ≡ p → ⊥) → after ≡ record before { lost_from = l }
       → IsServerInside (server_state m p f new) new.members after
@@ -99,7 +99,7 @@ module _ (m : Membership) (p f : ℕ) (s new : InstancesState) (before after : N
       (ap (λ (x : InstancesState). x.members) made)
       (skip_keeps (server_state m p f s) s.members q first stop before l early lost kept))
 
-  -- a suspicion of another server
+  -- A suspicion of another server keeps the invariant.
   pub suspect_kept : (q reach : ℕ) → reach ≡ reach_stored s q f → (p ≡ q → ⊥)
       → new ≡ instances_after_suspect s p q reach → after ≡ before
       → IsServerInside (server_state m p f new) new.members after
@@ -110,7 +110,7 @@ module _ (m : Membership) (p f : ℕ) (s new : InstancesState) (before after : N
       (ap (λ (x : InstancesState). x.members) made)
       (suspect_keeps (server_state m p f s) s.members q before other kept))
 
-  -- a suggestion, for which the notes were widened first
+  -- A suggestion keeps the invariant, even if the list of marks was lengthened first.
   pub place_kept : (mid : NotesState) (i t n : ℕ) → n ≡ m.count → 1 ≤ n → n ≤ most_servers → IsFree (server_state m p f s) i
       → new ≡ instances_after_suggest s i t
       → mid.lost_from ≡ before.lost_from → mid.next_ticket ≡ before.next_ticket

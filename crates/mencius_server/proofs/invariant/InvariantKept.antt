@@ -1,4 +1,4 @@
--- Each change of a server's fields keeps what they keep.
+-- Each change of a server's fields keeps the facts that the server maintains over them.
 use Rattle.std.proofs.Common.{◌≡◌, ℕ, ◌+◌, ◌<◌, ◌≤◌, ◌⊎◌, ◌&&◌, ◌||◌, Bool, true, false, Option, None, Some, inl, inr, ⊎_elim, cond, eqb, get_or, length, List, set, refl, sym, ◌∙◌, ap, subst, arith, filter, leb, map, ltb, min}
 use Rattle.std.specs.Prelude.{is_none}
 use Rattle.std.proofs.lemmas.Bool.{and_left, and_parts, and_right, cases_Bool, cases_lt, eqb-true, le-leb, leb-true, lt-leb, ne_eqb}
@@ -31,21 +31,21 @@ with_slots : (m : Membership) (p f : ℕ) (xs ys : List SlotState) → xs ≡ ys
     (record { members = m; id = p; front = f; slots = ys })
 with_slots m p f xs ys e = rw e
 
--- what the server knows of an instance is what others see of it
+-- The server's knowledge about an instance is the slot that callers see.
 pub instances_are : (m : Membership) (p f : ℕ) (x : InstancesState) (now : ServerState)
     → record { members = m; id = p; front = f; slots = x.slots } ≡ now → x.members ≡ m
     → (i : ℕ) → instance_slot x i ≡ slot now i
 instances_are m p f x now shown same i =
     ap (λ (n : Membership). get_or x.slots i (new_slot n)) same ∙ ap (λ (s : ServerState). slot s i) shown
 
--- the same server, with the same members
+-- The invariant still holds for an equal server with an equal membership.
 pub kept_as : (s y : ServerState) (m n : Membership) (noted : NotesState) → s ≡ y → n ≡ m → IsServerInside y m noted
     → IsServerInside s n noted
 kept_as s y m n noted same members kept =
     subst (λ (x : ServerState). IsServerInside x n noted) (sym same)
     (subst (λ (x : Membership). IsServerInside y x noted) (sym members) kept)
 
--- what is not free stays so where the front moves on and what was learned stays
+-- An instance that is not free stays so if the front does not move back and learned instances stay learned.
 unfree_stays : (s : ServerState) (f : ℕ) (xs : List SlotState) (j : ℕ) → s.front ≤ f
     → (is_none (slot s j).learned ≡ false → is_none (get_or xs j (new_slot s.members)).learned ≡ false)
     → is_free_at s j ≡ false → is_free_at (record s { front = f; slots = xs }) j ≡ false
@@ -61,7 +61,8 @@ unfree_stays s f xs j ahead stays unfree = elim (cases_Bool (eqb (owner s.member
   | inr other ↦ and_left _ _ (and_left _ _ other)
 ]
 
--- where the own suggestions are the same, and no more is lost below a place
+-- The invariant still holds if the own suggestions are the same, no further instance is lost below `lost_from`, and no
+-- instance becomes free.
 same_keeps : (s x : ServerState) (m : Membership) (n after : NotesState) → SaysSame s x → IsServer x
     → length x.slots ≡ instance_count → m ≡ x.members → s.front ≤ x.front
     → after.lost_from ≤ n.lost_from → after.next_ticket ≡ n.next_ticket → after.suggested_again ≡ n.suggested_again
@@ -84,7 +85,7 @@ same_keeps s x m n after said server full members ahead early next marks since p
       ∙ ap (λ (xs : List Bool). get_or xs j false) (sym marks);
 }
 
--- a slot written that keeps an own proposal
+-- Writing a slot that fits keeps the own suggestions.
 put_says : (s : ServerState) (i f : ℕ) (x : SlotState) → FitsAt s f i x → SaysSame s (with_slot_and_front s i x f)
 put_says s i f x fits = record { same = λ j small. go j (eqb (owner s.members j) s.id) refl } where
   go : (j : ℕ) (a : Bool) → eqb (owner s.members j) s.id ≡ a
@@ -114,7 +115,7 @@ put_since s i f l x (inr kept) j low =
       | inr other ↦ inr (rw other refl)
     ]) (λ lost. inl lost)
 
--- a slot and the front
+-- Writing a slot and the front keeps the invariant.
 pub put_keeps : (now : ServerState) (m : Membership) (i g : ℕ) (s : SlotState) (n : NotesState) (l : ℕ)
     → l ≤ n.lost_from → (l ≤ i) ⊎ (owner now.members i ≡ now.id → is_noop s.learned ≡ false)
     → FitsAt now g i s → now.front ≤ g → g ≤ greatest_front
@@ -137,7 +138,7 @@ put_shows m p f g old new now i y shown written =
     ≡ with_slot_and_front s i y g) shown
     (with_slots m p g _ _ (ap (λ (x : InstancesState). x.slots) written))
 
--- a Skip
+-- The slot of an instance after a Skip is heard.
 skip_slot : (s : ServerState) (q first stop j : ℕ) → j < instance_count
     → slot (after_skip s q first stop) j ≡ slot_after_skip s.members q first stop j (slot s j)
 skip_slot s q first stop j small =
@@ -194,13 +195,13 @@ skip_shown m p f old new now q first stop shown same made =
     ∙ ap (λ (n : Membership). map
     (λ (j : ℕ). slot_after_skip n q first stop j (get_or old.slots j (new_slot n))) instances) same))
 
--- a suspicion
+-- The slot of an instance after a suspicion.
 suspect_slot : (s : ServerState) (q j : ℕ) → j < instance_count
     → slot (after_suspect s q) j ≡ slot_after_suspect s.members s.id q (reach_at s q) j (slot s j)
 suspect_slot s q j small =
     get_or-map-instances (λ (i : ℕ). slot_after_suspect s.members s.id q (reach_at s q) i (slot s i)) j (new_slot s.members) small
 
--- an own slot is not touched
+-- A suspicion of another server leaves the slots of own instances as they were.
 suspect_own : (s : ServerState) (q j : ℕ) → (s.id ≡ q → ⊥) → j < instance_count → owner s.members j ≡ s.id
     → slot (after_suspect s q) j ≡ slot s j
 suspect_own s q j other small mine =
@@ -239,11 +240,11 @@ suspect_keeps s m q n other kept =
     (λ known. ap (λ (x : SlotState). is_none x.learned) (suspect_slot s q j small)
     ∙ after_suspect_learned (is_covered_in s.members q (reach_at s q) j (slot s j)) (slot s j) _ known)) kept
 
--- a suspicion, as what the server knows has it
+-- A suspicion keeps the invariant, in terms of the server's knowledge about the instances.
 module _ (m : Membership) (p f : ℕ) (y : InstancesState) (now : ServerState) (q : ℕ)
     (shown : record { members = m; id = p; front = f; slots = y.slots } ≡ now) (same : y.members ≡ m)
     (reach : ℕ) (at : reach ≡ reach_stored y q f) where
-  -- what callers see, and how far the suspicion reaches by that
+  -- The state that callers see, and the reach of the suspicion by that state.
   abbrev shown_state : ServerState
   shown_state = record { members = m; id = p; front = f; slots = y.slots }
 
@@ -304,7 +305,7 @@ module _ (m : Membership) (p f : ℕ) (y : InstancesState) (now : ServerState) (
       ∙ ap (λ (n : Membership). map
       (λ (j : ℕ). slot_after_suspect n p q (reach_at shown_state q) j (get_or y.slots j (new_slot n))) instances) same))
 
--- a suggestion
+-- A suggestion keeps the invariant.
 pub place_keeps : (s : ServerState) (m : Membership) (i t : ℕ) (n : NotesState) (next : ℕ) (marks : List Bool)
     → 1 ≤ s.members.count → s.members.count ≤ most_servers → IsFree s i
     → n.next_ticket ≤ next → t < next → length marks ≤ s.front
@@ -354,7 +355,7 @@ or-false : (a : Bool) → (a || false) ≡ a
 or-false true = refl
 or-false false = refl
 
--- a write at another instance leaves a slot as it was
+-- Writing the slot of one instance leaves the slots of other instances as they were.
 slot_as : (m : Membership) (old new : InstancesState) (i j : ℕ) (y : SlotState) → new ≡ with_instance_slot old i y
     → old.members ≡ m → (j ≡ i → ⊥) → instance_slot new j ≡ get_or old.slots j (new_slot m)
 slot_as m old new i j y written same off =
@@ -362,7 +363,7 @@ slot_as m old new i j y written same off =
     ∙ get_or-set_other old.slots i j y (new_slot old.members) off
     ∙ ap (λ (n : Membership). get_or old.slots j (new_slot n)) same
 
--- no ticket is suggested at or past the front
+-- No ticket is suggested at or above the front.
 unsuggested_high : (m : Membership) (p f : ℕ) (slots : List SlotState) (t j : ℕ)
     → IsServer (record { members = m; id = p; front = f; slots = slots }) → length slots ≡ instance_count
     → min f instance_count ≤ j
@@ -380,7 +381,7 @@ unsuggested_high m p f slots t j server full high = go (eqb (owner m j) p) refl
         (λ (past : f ≤ j). rw (server.unsaid j (eqb-true _ _ mine) past) refl)
         (cases_lt j f))
 
--- the marks that a suggestion makes, as others see the server before it
+-- The marks that a suggestion makes, in terms of the server that callers saw before it.
 pub place_marks : (m : Membership) (p f : ℕ) (old new : InstancesState) (now : ServerState) (i t : ℕ) (y : SlotState)
     (marked_before blank marks : List Bool)
     → record { members = m; id = p; front = f; slots = old.slots } ≡ now → old.members ≡ m

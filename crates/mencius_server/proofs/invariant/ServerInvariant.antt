@@ -1,4 +1,4 @@
--- What a server keeps, and how its list of slots is filled up.
+-- A new server has the facts of every server, and its list of slots is filled up with new slots.
 use Rattle.std.proofs.Common.{◌≡◌, ℕ, ◌<◌, ◌≤◌, List, None, length, replicate, get_or, set, refl, ap, sym, ◌∙◌, subst, arith, ⊎_elim, Option, Bool, true, false, Some, cond, eqb}
 use Rattle.std.proofs.lemmas.List.{length-replicate, get_or-replicate, get_or-set_other, get_or_past, set_past}
 use Rattle.std.proofs.lemmas.Grind.{get_or-set_at}
@@ -12,7 +12,7 @@ use Rattle.mencius_model.specs.Server.{ticket_of}
 use Rattle.mencius_server.specs.State.{ServerState, FitsAt, IsServer, new_server, slot, with_slot_and_front}
 use Rattle.mencius_base.specs.Limits.{greatest_front, instance_count, most_servers}
 
--- past the last slot there are new ones
+-- A list of equal slots gives this slot at every place, also past its end.
 pub past-replicate : (n i : ℕ) (s : SlotState) → get_or (replicate n s) i s ≡ s
 past-replicate n i s =
     ⊎_elim
@@ -21,7 +21,7 @@ past-replicate n i s =
     get_or_past (replicate n s) i s none)
     (cases_lt i n)
 
--- a new server keeps all this
+-- A new server has the facts of every server.
 pub IsServer-new : (m : Membership) (p : ℕ) → p < m.count → m.count ≤ most_servers → IsServer (new_server m p)
 IsServer-new m p member few = record {
   member = member;
@@ -31,7 +31,7 @@ IsServer-new m p member few = record {
   unsaid = λ i mine ahead. rw (past-replicate instance_count i (new_slot m));
 }
 
--- a new server suggested nothing, and no ticket waits there
+-- A new server has suggested nothing, and no ticket waits there.
 none_said : (m : Membership) (p j : ℕ) (a : Bool)
     → cond a (ticket_of (get_or (replicate instance_count (new_slot m)) j (new_slot m)).proposal) None ≡ None
 none_said m p j true = ap (λ (s : SlotState). ticket_of s.proposal) (past-replicate instance_count j (new_slot m))
@@ -43,7 +43,7 @@ new_unsaid m p j t e = let none : suggested_at (new_server m p) j ≡ None = non
 pub new_waits : (m : Membership) (p j : ℕ) → own_waiting_at (new_server m p) j ≡ None
 new_waits m p j = ap (own_waiting_of (new_server m p) j) (none_said m p j (eqb (owner m j) p))
 
--- only at an instance is anything suggested
+-- A ticket is suggested only at an existing instance.
 pub said_inside : (s : ServerState) (i t : ℕ) → length s.slots ≡ instance_count → suggested_at s i ≡ Some t
     → i < instance_count
 said_inside s i t full said =
@@ -58,7 +58,7 @@ said_inside s i t full said =
     none true e = cc
     none false e = cc
 
--- what holds of the new slot and of the old ones holds after a write
+-- A fact about the new slot and all old slots holds for each slot after a write.
 pub set_keeps : (P : SlotState → Type 0) (given : List SlotState) (i j : ℕ) (s x : SlotState) → (j ≡ i → P s)
     → P (get_or given j x) → P (get_or (set given i s) j x)
 set_keeps P given i j s x new old =
@@ -70,7 +70,7 @@ set_keeps P given i j s x new old =
     (λ (ne : j ≡ i → ⊥). rw (get_or-set_other given i j s x ne) old)
     (cases_eq j i)
 
--- what a server with that front keeps of one slot
+-- The facts about one slot of a server with the front f.
 pub record KeepsAt (s : ServerState) (f i : ℕ) (x : SlotState) : Type 0 where
   pub same : x.members ≡ s.members
   pub own : owner s.members i ≡ s.id → x.trying ≡ 0
@@ -82,7 +82,7 @@ KeepsAt-fits s f i x fits = record { same = fits.same; own = fits.own; unsaid = 
 pub KeepsAt-new : (s : ServerState) (f i : ℕ) → KeepsAt s f i (new_slot s.members)
 KeepsAt-new s f i = record { same = refl; own = λ mine. refl; unsaid = λ mine ahead. refl }
 
--- an instance before the front may have a proposal
+-- A slot below the front may have any proposal.
 pub KeepsAt-suggested : (s : ServerState) (g i : ℕ) (o : Option Value) → i < g → IsServer s
     → KeepsAt s g i (record (slot s i) { proposal = o })
 KeepsAt-suggested s g i o before kept =
@@ -103,7 +103,7 @@ IsServer-with_slot s i x f kept fits ahead near = record {
       (kept.unsaid j mine (omega arith));
 }
 
--- what a server keeps holds of each of its slots
+-- Each slot of a server fits at its own instance.
 pub FitsAt-slot : (s : ServerState) (i : ℕ) → IsServer s → FitsAt s s.front i (slot s i)
 FitsAt-slot s i kept =
     record { stays = λ known. known; said = λ mine. refl; same = kept.same i; own = kept.own i; unsaid = kept.unsaid i }

@@ -1,4 +1,4 @@
--- A loop that goes from one instance of a server to its next one passes over instances that nothing happens to.
+-- A loop that goes from one instance of a server to its next one passes only over instances where nothing happens.
 use Rattle.std.proofs.Common.{◌≡◌, ℕ, ◌+◌, ◌-◌, ◌<◌, ◌≤◌, Bool, true, false, ⊎_elim, cond, eqb, List, ◌++◌, map, filter, sym, ◌∙◌, ap, arith}
 use Rattle.std.specs.List.{count_by}
 use Rattle.std.specs.Prelude.{is_none}
@@ -13,13 +13,13 @@ use Rattle.mencius_server.proofs.suspicions.FirstPhases.{HasRoomFrom, IsSentUpTo
 use Rattle.mencius_model.proofs.trace.Lists.{eqb_swap}
 use Rattle.mencius_server.proofs.stored.SkipLoop.{IsCountUpTo}
 
--- below a server's least instance from a place on, it owns none
+-- A server owns no instance between a place and its first instance at or above that place.
 pub unowned : (m : Membership) (q from next : ℕ) → ((i : ℕ) → from ≤ i → owner m i ≡ q → next ≤ i) → (j : ℕ)
     → from ≤ j → j < next → eqb (owner m j) q ≡ false
 unowned m q from next least j low high =
     ne_eqb (owner m j) q (λ mine. let h : next ≤ j = least j low mine in absurd (omega arith))
 
--- nothing is counted, made or sent in between
+-- A count stays the same over places that fail its test.
 pub count_gap : (test : ℕ → Bool) (i n count : ℕ) → i ≤ n → ((j : ℕ) → i ≤ j → j < n → test j ≡ false)
     → IsCountUpTo test i count → IsCountUpTo test n count
 count_gap test i n count h none before =
@@ -30,7 +30,7 @@ count_gap test i n count h none before =
           ∙ count_by-below_none test i (n - i) (λ j low high. none j low (omega arith)));
     }
 
--- the same where the place may lie behind
+-- A count stays the same at a later or an earlier place if all places in between fail its test.
 pub count_to : (test : ℕ → Bool) (i n count : ℕ) → ((j : ℕ) → i ≤ j → j < n → test j ≡ false)
     → ((j : ℕ) → n ≤ j → j < i → test j ≡ false) → IsCountUpTo test i count → IsCountUpTo test n count
 count_to test i n count ahead behind before =
@@ -82,7 +82,7 @@ room_gap test n room i stop h none has =
           (arith, has.enough, e);
     }
 
--- a Skip gives up what lies in its interval and is the skipper's
+-- A Skip gives up no instance of another server.
 pub unskipped_other : (m : Membership) (q first stop j : ℕ) → eqb (owner m j) q ≡ false
     → is_skipped m q first stop j ≡ false
 unskipped_other m q first stop j e = and_left _ _ (and_left _ _ (eqb_swap q (owner m j) ∙ e))
@@ -93,12 +93,12 @@ unskipped_before m q first stop j h = and_left _ _ (and_right _ _ (lt-leb first 
 pub unskipped_past : (m : Membership) (q first stop j : ℕ) → stop ≤ j → is_skipped m q first stop j ≡ false
 unskipped_past m q first stop j past = and_right _ _ (le-ltb j stop past)
 
--- a slot that is not given up stays
+-- The slot of an instance stays as it was if the Skip does not give up this instance.
 pub slot_kept : (m : Membership) (q first stop j : ℕ) (s : SlotState) → is_skipped m q first stop j ≡ false
     → slot_after_skip m q first stop j s ≡ s
 slot_kept m q first stop j s e = rw e
 
--- a suspicion covers what lies in its reach and is the suspected server's
+-- A suspicion covers no instance of another server.
 pub unrevoked_other : (m : Membership) (q reach j : ℕ) (s : SlotState) → eqb (owner m j) q ≡ false
     → is_covered_in m q reach j s ≡ false
 unrevoked_other m q reach j s e = and_left _ _ (and_left _ _ e)
@@ -106,7 +106,7 @@ unrevoked_other m q reach j s e = and_left _ _ (and_left _ _ e)
 pub unrevoked_past : (m : Membership) (q reach j : ℕ) (s : SlotState) → reach ≤ j → is_covered_in m q reach j s ≡ false
 unrevoked_past m q reach j s past = and_left _ _ (and_right _ _ (le-ltb j reach past))
 
--- what lies in the interval and is the skipper's is given up
+-- A Skip gives up each instance of the skipper in its interval.
 pub skipped_here : (m : Membership) (q first stop j : ℕ) → owner m j ≡ q → first ≤ j → j < stop
     → is_skipped m q first stop j ≡ true
 skipped_here m q first stop j mine low high =
@@ -116,7 +116,7 @@ pub one_at_most : (a : Bool) → cond a 1 0 ≤ 1
 one_at_most true = omega arith
 one_at_most false = omega arith
 
--- what a free instance is
+-- A free instance is an own unlearned instance at or above the front.
 pub free_facts : (s : ServerState) (i : ℕ) → is_free_at s i ≡ true
     → (owner s.members i ≡ s.id) × (s.front ≤ i) × (is_none (slot s i).learned ≡ true)
 free_facts s i free =
@@ -124,7 +124,7 @@ free_facts s i free =
     let place = and_parts _ _ parts.0 in
     (eqb-true _ _ place.0, leb-true _ _ place.1, parts.1)
 
--- an instance that is learned, before the front, or not the server's own, is not free
+-- An instance is not free if it is learned, below the front or owned by another server.
 pub learned_unfree : (s : ServerState) (j : ℕ) → is_none (slot s j).learned ≡ false → is_free_at s j ≡ false
 learned_unfree s j e = and_right _ _ e
 
@@ -134,7 +134,7 @@ before_unfree s j low = and_left _ _ (and_right _ _ (lt-leb s.front j low))
 pub other_unfree : (s : ServerState) (j : ℕ) → eqb (owner s.members j) s.id ≡ false → is_free_at s j ≡ false
 other_unfree s j e = and_left _ _ (and_left _ _ e)
 
--- a step from one place to the next that matters
+-- If a test fails below a place, at this place and up to the next one, it fails at all places below the next one.
 pub none_more : (test : ℕ → Bool) (i next : ℕ) → test i ≡ false → ((j : ℕ) → i + 1 ≤ j → j < next → test j ≡ false)
     → ((j : ℕ) → j < i → test j ≡ false) → (j : ℕ) → j < next → test j ≡ false
 none_more test i next here between before j high =

@@ -1,4 +1,4 @@
--- A loop that goes over the instances of an interval.
+-- A loop over the instances of an interval has the right effect at each instance, and changes nothing outside.
 use Rattle.std.proofs.Common.{◌≡◌, ℕ, ◌+◌, ◌-◌, ◌<◌, ◌≤◌, Bool, true, false, cond, ◌&&◌, not, List, [], ◌∷◌, Option, None, Some, eqb, refl, sym, ◌∙◌, ap, arith, ⊎_elim}
 use Rattle.std.specs.Prelude.{is_none}
 use Rattle.std.specs.List.{count_by}
@@ -19,7 +19,7 @@ use Rattle.mencius_server.proofs.suspicions.FirstPhases.{HasRoomFrom, room_here,
 use Rattle.mencius_server.proofs.stored.InstanceGaps.{room_gap, skipped_here, unowned, unskipped_before, unskipped_other, unskipped_past}
 use Rattle.mencius_server.proofs.stored.SkippedSlot.{after_skip_at, after_skip_kept}
 
--- ---- which instances are in an interval
+-- ---- the instances of an interval
 
 pub in_here : (a : OwnedInterval) (j : ℕ) → owner a.members j ≡ a.server → a.first ≤ j → j < a.stop → is_in a j ≡ true
 in_here a j own low high = skipped_here a.members a.server a.first a.stop j own low high
@@ -30,7 +30,7 @@ out_before a j low = unskipped_before a.members a.server a.first a.stop j low
 pub out_past : (a : OwnedInterval) (j : ℕ) → a.stop ≤ j → is_in a j ≡ false
 out_past a j past = unskipped_past a.members a.server a.first a.stop j past
 
--- between one of them and the next
+-- No place between an instance of the server and its next instance is in the interval.
 pub out_between : (a : OwnedInterval) (i next : ℕ) → owner a.members i ≡ a.server
     → ((j : ℕ) → i + 1 ≤ j → owner a.members j ≡ owner a.members i → next ≤ j)
     → (j : ℕ) → i + 1 ≤ j → j < next → is_in a j ≡ false
@@ -38,7 +38,8 @@ out_between a i next own least j low high =
     unskipped_other a.members a.server a.first a.stop j
     (unowned a.members a.server (i + 1) next (λ j l mine. least j l (mine ∙ sym own)) j low high)
 
--- whatever fails outside of an interval, and at a server's instances from one of them up to a place, fails up to there
+-- A test fails from i up to `end` if it fails outside the interval and at the instances of i's owner from i up to
+-- `end`.
 pub along_interval : (a : OwnedInterval) (i end : ℕ) (test : ℕ → Bool) → ((j : ℕ) → is_in a j ≡ false → test j ≡ false)
     → owner a.members i ≡ a.server → a.stop ≤ instance_count
     → ((j : ℕ) → i ≤ j → j < end → owner a.members j ≡ owner a.members i → j < instance_count → test j ≡ false)
@@ -53,9 +54,9 @@ along_interval a i end test outside own small along j from less = ⊎_elim
     (ne_eqb (owner a.members j) a.server (λ e. other (e ∙ sym own)))))
     (cases_eq (owner a.members j) (owner a.members i))
 
--- ---- what a loop makes of the slots
+-- ---- the slots during a loop
 
--- at the instances before i the slots are as f makes them, and from there on they are the old ones
+-- The loop has changed the slots of the instances below i as f says, and no slot from i on.
 pub record IsWalked (f : ℕ → Option SlotState → Option SlotState) (old new : ℕ → Option SlotState) (i : ℕ) : Type 0
   where
     pub done : (j : ℕ) → j < i → new j ≡ f j (old j)
@@ -97,7 +98,7 @@ module _ (f : ℕ → Option SlotState → Option SlotState) (old : ℕ → Opti
       (λ (from : i ≤ j). h.rest j from ∙ sym (none j from))
       (cases_lt j i)
 
--- what is written at one instance
+-- After a write at one instance, its slot is the result of the write.
 pub written_here : (g : Option SlotState → Option SlotState) (now new : ℕ → Option SlotState) (i : ℕ)
     → ((j : ℕ) → new j ≡ cond (eqb j i) (g (now j)) (now j)) → new i ≡ g (now i)
 written_here g now new i written = written i ∙ ap (λ bit. cond bit (g (now i)) (now i)) (eq-eqb i i refl)
@@ -107,7 +108,7 @@ pub written_off : (g : Option SlotState → Option SlotState) (now new : ℕ →
     → (j : ℕ) → (j ≡ i → ⊥) → new j ≡ now j
 written_off g now new i written j off = written j ∙ ap (λ bit. cond bit (g (now j)) (now j)) (ne_eqb j i off)
 
--- ---- no-op is learned
+-- ---- learning no-op
 
 pub after_skip_out : (a : OwnedInterval) (j : ℕ) (o : Option SlotState) → is_in a j ≡ false
     → option_map (slot_after_skip_in a j) o ≡ o
@@ -117,7 +118,7 @@ pub after_skip_in : (a : OwnedInterval) (j : ℕ) (o : Option SlotState) → is_
     → option_map (slot_after_skip_in a j) o ≡ option_map (λ s. after_learn s Noop) o
 after_skip_in a j o e = after_skip_at a.members a.server a.first a.stop j o e
 
--- past the last slot of the interval
+-- Learning no-op in an interval changes no slot past the last stored slot of the interval.
 pub after_skip_past : (a : OwnedInterval) (end j : ℕ) (old : ℕ → Option SlotState)
     → ((j : ℕ) → end ≤ j → j < a.stop → old j ≡ None) → end ≤ j → option_map (slot_after_skip_in a j) (old j) ≡ old j
 after_skip_past a end j old none past = ⊎_elim
@@ -125,7 +126,7 @@ after_skip_past a end j old none past = ⊎_elim
     (λ (over : a.stop ≤ j). after_skip_out a j (old j) (out_past a j over))
     (cases_lt j a.stop)
 
--- ---- what was learned before
+-- ---- instances that were learned before
 
 pub learned_before_out : (a : OwnedInterval) (rs : List Interval) (ss : List (Option SlotState)) (j : ℕ)
     → is_in a j ≡ false
@@ -181,21 +182,21 @@ pub unlearned_in : (a : OwnedInterval) (ss : List (Option SlotState)) (j : ℕ) 
     → is_covered_slot a ss j ≡ is_unlearned (stored_at ss j)
 unlearned_in a ss j e = rw e refl
 
--- the message for one instance
+-- A Prepare is sent for an instance if its slot is unlearned.
 pub prepare_here : (a : OwnedInterval) (p i : ℕ) (ss : List (Option SlotState)) (d : Bool) (o : Option SlotState)
     → stored_at ss i ≡ o → d ≡ is_unlearned o
     → prepare_at a.members p i o ≡ cond d (prepare_of a p ss i ∷ []) []
 prepare_here a p i ss d None e h = rw h refl
 prepare_here a p i ss d (Some s) e h = rw (h, e) refl
 
--- ---- slots that come to be stored
+-- ---- storing new slots
 
 pub new_slot_out : (a : OwnedInterval) (rs : List Interval) (j : ℕ) (o : Option SlotState) → is_in a j ≡ false
     → new_slot_at a rs j o ≡ o
 new_slot_out a rs j None e = rw e refl
 new_slot_out a rs j (Some s) e = refl
 
--- where none is lacking
+-- If an instance lacks no slot, its slot stays as it was.
 pub new_slot_none : (a : OwnedInterval) (rs : List Interval) (ss : List (Option SlotState)) (j : ℕ)
     → is_lacking a rs ss j ≡ false → new_slot_at a rs j (stored_at ss j) ≡ stored_at ss j
 new_slot_none a rs ss j e = go (stored_at ss j) refl
@@ -231,7 +232,7 @@ pub lacking_covered : (a : OwnedInterval) (rs : List Interval) (ss : List (Optio
     → is_lacking a rs ss j ≡ false
 lacking_covered a rs ss j e = rw e (and_right (is_in a j) _ refl)
 
--- a slot that is made where none is stored
+-- A choice by a test stays the same if another test that holds is added.
 pub made_yes : {X : Type 0} (a d : Bool) (x y : X) → d ≡ true → cond a x y ≡ cond (a && d) x y
 made_yes true d x y e = rw e refl
 made_yes false d x y e = refl
@@ -240,7 +241,7 @@ pub made_no : {X : Type 0} (a d : Bool) (x y : X) → d ≡ false → y ≡ cond
 made_no true d x y e = rw e refl
 made_no false d x y e = refl
 
--- past instances at which none is lacking
+-- The loop may pass over instances that lack no slot.
 pub leapt : (a : OwnedInterval) (rs : List Interval) (old now : List (Option SlotState)) (i next : ℕ) → i ≤ next
     → ((j : ℕ) → i ≤ j → j < next → is_lacking a rs old j ≡ false)
     → IsWalked (new_slot_at a rs) (stored_at old) (stored_at now) i
@@ -305,7 +306,7 @@ module _ (a : OwnedInterval) (rs : List Interval) (old : List (Option SlotState)
           × HasRoomFrom (is_lacking a rs old) a.stop (cap - more) next
       filled more is = (filled_walked, filled_more more is)
 
-  -- where a slot is stored
+  -- An instance with a stored slot lacks none.
   pub stored_whole : is_none (stored_at now i) ≡ false → is_lacking a rs old i ≡ false
   stored_whole some = and_right (is_in a i) _ (and_right (not (is_in_any rs i)) _ (ap is_none (sym start) ∙ some))
 
@@ -316,7 +317,7 @@ module _ (a : OwnedInterval) (rs : List Interval) (old : List (Option SlotState)
       (λ (off : j ≡ i → ⊥). gap j (omega (arith, l, off)) h)
       (cases_eq j i)) walked (cap - len) room
 
--- a count of none
+-- If a count is 0, every counted place fails its test.
 pub none_of_all : (test : ℕ → Bool) (n : ℕ) → count_by test (numbers_below n) ≤ 0 → (j : ℕ) → j < n → test j ≡ false
 none_of_all test n few j less =
     ⊎_elim

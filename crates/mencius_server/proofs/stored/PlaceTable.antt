@@ -1,4 +1,4 @@
--- The slots that are stored, by the table of their places.
+-- The table of places gives each instance its stored slot, and stays right when a slot is written or added.
 use Rattle.std.proofs.Common.{◌≡◌, ℕ, zero, suc, ◌+◌, ◌<◌, ◌≤◌, Bool, true, false, cond, not, List, [], ◌∷◌, ◌++◌, Option, None, Some, IsSome, eqb, get_or, length, set, refl, sym, ◌∙◌, ap, arith, ⊎_elim}
 use Rattle.std.specs.Prelude.{is_none, is_some, slice_get, slice_set, unwrap_or}
 use Rattle.std.specs.List.{count_by}
@@ -14,9 +14,9 @@ use Rattle.mencius_server.specs.Slots.{stored_at}
 use Rattle.mencius_server.proofs.intervals.IntervalCounts.{bit}
 use Rattle.mencius_base.specs.Limits.{instance_count}
 
--- ---- what is stored, by the table
+-- ---- the stored slots, by the table
 
--- also past its end
+-- The slot that is stored at an instance is the slot at its place in the table, even past the end of the table.
 pub stored_is : (places : List (Option ℕ)) (slots : List SlotState) → length places ≤ instance_count → (j : ℕ)
     → stored_at (stored_slots places slots) j ≡ stored_slot_at places slots j
 stored_is places slots few j =
@@ -33,7 +33,7 @@ slice_get_some [] n l = absurd (omega arith)
 slice_get_some (x ∷ xs) zero l = refl
 slice_get_some (x ∷ xs) (suc n) l = slice_get_some xs n (omega arith)
 
--- a slot is stored where the table has a place
+-- A slot is stored at an instance exactly if the table has a place for it.
 pub somewhere : (places : List (Option ℕ)) (slots : List SlotState) (n : ℕ) → n ≡ length slots → IsSlotTable places n
     → (j : ℕ)
     → is_some (stored_at (stored_slots places slots) j) ≡ is_some (get_or places j None)
@@ -55,7 +55,7 @@ pub stored_nowhere : (places : List (Option ℕ)) (slots : List SlotState) → l
     → get_or places j None ≡ None → stored_at (stored_slots places slots) j ≡ None
 stored_nowhere places slots few j at = stored_is places slots few j ∙ ap (slot_in slots) at
 
--- the place of a slot that is stored, as the code reads it
+-- The place that the code reads from the table is the place of the stored slot.
 pub slot_index_is : (places ys : List (Option ℕ)) (slots : List SlotState) (n : ℕ) (now : List (Option SlotState))
     (i place : ℕ) (o : Option ℕ)
     → n ≡ length slots → IsSlotTable places n → stored_slots places slots ≡ now → IsSome (stored_at now i)
@@ -70,7 +70,7 @@ slot_index_is places ys slots n now i place o e h view there same read is =
     go None holds = absurd (cc)
     go (Some x) holds = refl
 
--- ---- how many there are
+-- ---- the number of slots
 
 pub count_alike : {A B : Type 0} (xs : List (Option A)) (ys : List (Option B))
     → ((j : ℕ) → is_some (get_or xs j None) ≡ is_some (get_or ys j None))
@@ -120,9 +120,9 @@ stored_wider places wider slots all few fewer same e j =
     stored_is wider all fewer j ∙ ap (slot_in all) (same j) ∙ ap (λ ss. stored_slot_at places ss j) e
     ∙ sym (stored_is places slots few j)
 
--- ---- a slot that is written
+-- ---- writing a slot
 
--- the slot at a place is one instance's
+-- Writing the slot at a place changes the stored slot of one instance, and no other.
 pub lends_place : (places : List (Option ℕ)) (slots : List SlotState) (n : ℕ) → n ≡ length slots → IsSlotTable places n
     → (i place : ℕ) → get_or places i None ≡ Some place
     → (left : SlotState) → stored_slots places (slice_set slots place left)
@@ -158,7 +158,7 @@ lends_place places slots n e h i place at left =
         ∙ apart_get slots place x left (λ same. off (h.apart j i place (is ∙ ap (λ y. Some y) same) at))
         ∙ sym (ap (slot_in (slice_set slots place left)) is)
 
--- ---- a slot more
+-- ---- adding a slot
 
 module _ (places : List (Option ℕ)) (slots : List SlotState) (n : ℕ) (e : n ≡ length slots) (h : IsSlotTable places n)
     (i : ℕ)
@@ -192,7 +192,7 @@ module _ (places : List (Option ℕ)) (slots : List SlotState) (n : ℕ) (e : n 
         omega (arith, one, was, h.count, m_is);
   }
     where
-      -- the new place is no other instance's
+      -- The new place belongs to no other instance.
       fresh : (j other place : ℕ) → j ≡ i → (other ≡ i → ⊥) → get_or (set places i (Some n)) j None ≡ Some place
           → get_or (set places i (Some n)) other None ≡ Some place → ⊥
       fresh j other place at off is is_other =
@@ -235,7 +235,7 @@ module _ (places : List (Option ℕ)) (slots : List SlotState) (n : ℕ) (e : n 
           ap (slot_in (slots ++ x ∷ [])) is ∙ front slots m (let l = h.within j m is in omega (arith, l))
           ∙ sym (ap (slot_in slots) is)
 
--- ---- a slot more, in a table that was lengthened
+-- ---- adding a slot to a table that was lengthened
 
 module _ (places wide : List (Option ℕ)) (slots : List SlotState) (now : List (Option SlotState)) (n m i : ℕ)
     (e : n ≡ length slots) (h : IsSlotTable places n)
@@ -263,7 +263,7 @@ module _ (places wide : List (Option ℕ)) (slots : List SlotState) (now : List 
       (stored_is wide slots few j ∙ ap (slot_in slots) (same j) ∙ sym (stored_is places slots h.few j)
       ∙ ap (λ ss. stored_at ss j) view))
 
--- ---- what the table says of one instance, as the code reads it
+-- ---- the entry of one instance, as the code reads it
 
 pub none_read : (places : List (Option ℕ)) (slots : List SlotState) (i : ℕ) (o : Option ℕ) (a : Bool)
     → length places ≤ instance_count → i < length places → o ≡ get_or places i o

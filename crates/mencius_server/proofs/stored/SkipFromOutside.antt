@@ -1,4 +1,4 @@
--- A Skip, seen from outside.
+-- A Skip keeps the facts that hold for every server.
 use Rattle.std.proofs.Common.{ℕ, ◌<◌, ◌≤◌, List, length, map, sym, subst, ⊎_elim}
 use Rattle.std.proofs.lemmas.List.{get_or_past}
 use Rattle.std.proofs.lemmas.Bool.{cases_lt}
@@ -16,7 +16,7 @@ use Rattle.mencius_base.specs.Limits.{instance_count}
 abbrev slots_after_skip : ServerState → ℕ → ℕ → ℕ → List SlotState
 slots_after_skip s q first stop = map (λ (j : ℕ). slot_after_skip s.members q first stop j (slot s j)) instances
 
--- a server keeps what it keeps through a Skip
+-- A server that hears a Skip still has the facts of every server.
 pub IsServer-skip : (s : ServerState) (q first stop : ℕ) → IsServer s → IsServer (after_skip s q first stop)
 IsServer-skip s q first stop kept = record {
   member = kept.member;

@@ -1,10 +1,10 @@
--- A loop over the slots that learns no-op at some.
+-- A loop over slots counts the places that pass a test, one after the other.
 use Rattle.std.proofs.Common.{◌≡◌, ℕ, ◌+◌, Bool, cond, sym}
 use Rattle.std.specs.List.{count_by}
 use Rattle.mencius_base.specs.Members.{numbers_below}
 use Rattle.mencius_model.proofs.trace.NumberLists.{count_by-below_more, count_by-below_zero}
 
--- so many of the first i places pass
+-- `count` is the number of places below i that pass the test.
 pub record IsCountUpTo (test : ℕ → Bool) (i count : ℕ) : Type 0 where
   pub counted : count ≡ count_by test (numbers_below i)
 

@@ -1,4 +1,4 @@
--- A Skip, by the slots that are stored and the intervals that were skipped.
+-- Hearing a Skip changes the stored slots and the skipped intervals as the rule of a Skip says.
 use Rattle.std.proofs.Common.{◌≡◌, ℕ, ◌<◌, ◌≤◌, Bool, true, false, cond, ◌&&◌, ◌||◌, not, List, [], Option, None, Some, eqb, get_or, length, map, min, set, refl, sym, ◌∙◌, ap, subst, arith, ⊎_elim}
 use Rattle.std.specs.Prelude.{is_none, is_some, nat_le, nat_lt, unwrap_or}
 use Rattle.std.specs.List.{count_by}
@@ -34,7 +34,7 @@ noop_again true s = go (is_none s.learned) refl
     go true e = rw e refl
     go false e = rw (e, e) refl
 
--- where no slot is stored
+-- At an instance without a stored slot, adding the interval has the effect of the Skip.
 by_skip_after_skip : (a : OwnedInterval) (m : Membership) (j : ℕ) (d x : Bool) → is_in a j ≡ x
     → slot_by_skip m (d || x) ≡ slot_after_skip_in a j (slot_by_skip m d)
 by_skip_after_skip a m j true x e = sym (noop_again (is_in a j) (new_slot m))
@@ -56,7 +56,7 @@ learned_noop s = go (is_none s.learned) refl
     go true e = rw e refl
     go false e = rw (e, e) refl
 
--- a slot at which nothing is given up
+-- A slot stays as it was if it is learned or its instance lies outside the interval.
 after_skip_none : (d : OwnedInterval) (j : ℕ) (s : SlotState) → (is_in d j && is_none s.learned) ≡ false
     → slot_after_skip_in d j s ≡ s
 after_skip_none d j s e = go (is_in d j) (is_none s.learned) refl e
@@ -110,17 +110,17 @@ module _ (m : Membership) (a : OwnedInterval) (members : a.members ≡ m) (slots
         (cases_eq (owner m j) a.server)
         ∙ sym (ap (λ o. slot_after_skip_in a j (unwrap_or o (slot_by_skip m (is_in_skipped m rs j)))) e)
 
-    -- no-op is learned at each instance that is given up
+    -- The server learns no-op at each unlearned instance that the Skip gives up.
     pub skip_gives : (j : ℕ) → j < instance_count
         → instance_slot_in m new (set rs a.server ys) j ≡ slot_after_skip_in a j (instance_slot_in m slots rs j)
     skip_gives j small = skip_at j small (stored_at slots j) refl
 
-    -- what was learned stays learned
+    -- A learned instance stays learned.
     pub skip_stays : (j : ℕ) → j < instance_count → is_none (instance_slot_in m slots rs j).learned ≡ false
         → is_none (instance_slot_in m new (set rs a.server ys) j).learned ≡ false
     skip_stays j small h = rw (skip_gives j small) (stays_learned a j (instance_slot_in m slots rs j) h)
 
-    -- where nothing is given up, all that is known is as before
+    -- The knowledge about an instance stays as it was if the instance is learned or lies outside the interval.
     pub skip_kept : (j : ℕ) → j < instance_count → (is_in a j && is_none (instance_slot_in m slots rs j).learned) ≡ false
         → instance_slot_in m new (set rs a.server ys) j ≡ instance_slot_in m slots rs j
     skip_kept j small e = skip_at j small (stored_at slots j) refl ∙ after_skip_none a j (instance_slot_in m slots rs j) e
@@ -203,7 +203,7 @@ module _ (m : Membership) (a : OwnedInterval) (members : a.members ≡ m) (slots
             by_interval false true same s y old = rw s (learned_noop value)
             by_interval false false same s y old = absurd (cc)
 
--- where the whole interval was skipped before, all is as it was
+-- If the whole interval was skipped before, nothing changes.
 pub skip_again : (m : Membership) (d : OwnedInterval) (slots : List (Option SlotState)) (rs : List (List Interval))
     (now : InstancesState) → d.members ≡ m → instances_in m slots rs ≡ now → LearnedWhereSkipped m slots rs
     → ((j : ℕ) → d.first ≤ j → j < d.stop → is_in_any (get_or rs d.server []) j ≡ true)
@@ -232,7 +232,7 @@ skip_again m d slots rs now members shown learned_where_skipped covered =
         (λ (out : is_in d j ≡ false). and_left _ _ out)
         (cases_Bool (is_in d j))
 
--- what a Skip gives up, by slots and intervals
+-- The same instances are newly skipped by the stored slots and intervals as by the knowledge about each instance.
 after_skip_same : (m : Membership) (d : OwnedInterval) (slots : List (Option SlotState)) (rs : List (List Interval))
     (low : ℕ)
     → d.members ≡ m → AreSlotsAndSkips m slots rs low
@@ -263,7 +263,8 @@ after_skip_same m d slots rs low members h j small =
     go (Some s) e true same = let so = h.learned_where_skipped j s small same e in rw (e, same, so) refl
     go (Some s) e false same = rw (e, same) (twice (is_none s.learned))
 
--- an interval of q has its instances from one place on and below another
+-- The interval `a` of q begins at q's first instance at or above `first`, and ends at q's first instance at or above
+-- `stop`. A `stop` above 4,096 counts as 4,096.
 pub record IsAligned (q first stop : ℕ) (a : OwnedInterval) : Type 0 where
   pub server : a.server ≡ q
   pub above_first : first ≤ a.first
@@ -305,7 +306,7 @@ aligned_in q first stop d al j small =
         (cases_lt j stop))
         (cases_lt j first)
 
--- what the whole Skip makes, and at how many instances it is news
+-- The effect of the whole Skip, and the number of instances where it is news.
 module _ (q first stop : ℕ) (a : OwnedInterval) (al : IsAligned q first stop a) (now : InstancesState)
     (same : a.members ≡ now.members) where
   in_is : (j : ℕ) → j < instance_count → is_in a j ≡ is_skipped now.members q first stop j

@@ -1,4 +1,4 @@
--- What a Skip makes of a slot that is stored, if any.
+-- A Skip teaches a stored slot no-op if it gives up the instance, and otherwise leaves it as it was.
 use Rattle.std.proofs.Common.{◌≡◌, ℕ, Bool, true, false, cond, Option, None, Some, refl, ap}
 use Rattle.std.specs.Option.{option_map}
 use Rattle.mencius_base.specs.declared.message.Value.TheVariants.{Noop}
@@ -8,7 +8,7 @@ use Rattle.coord_paxos.specs.Slot.{after_learn}
 use Rattle.mencius_server.specs.Machine.{is_skipped, slot_after_skip}
 use Rattle.mencius_server.proofs.stored.InstanceGaps.{slot_kept}
 
--- what is not skipped stays
+-- The slot of an instance stays as it was if the Skip does not give up this instance.
 pub after_skip_kept : (m : Membership) (q first stop j : ℕ) (o : Option SlotState) → is_skipped m q first stop j ≡ false
     → option_map (slot_after_skip m q first stop j) o ≡ o
 after_skip_kept m q first stop j None e = refl

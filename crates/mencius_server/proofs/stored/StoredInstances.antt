@@ -1,4 +1,5 @@
--- What a server knows of each instance, by the slots that are stored and the intervals that were skipped.
+-- The stored slots and the skipped intervals give a server's knowledge about each instance, before and after each
+-- change.
 use Rattle.std.proofs.Common.{◌≡◌, ℕ, zero, suc, ◌<◌, ◌≤◌, Bool, true, false, cond, List, [], ◌∷◌, ◌++◌, Option, None, Some, IsSome, eqb, get_or, length, map, set, refl, sym, ◌∙◌, ap, subst, arith, ⊎_elim}
 use Rattle.std.specs.Prelude.{is_none, is_some, nat_le, unwrap_or}
 use Rattle.std.specs.List.{count_by}
@@ -22,7 +23,7 @@ use Rattle.mencius_server.specs.declared.change.Change.TheVariants.{Prepare, Acc
 use Rattle.mencius_server.specs.declared.skipped_intervals.Interval.{Interval}
 use Rattle.mencius_base.specs.Limits.{instance_count}
 
--- ---- what is seen of an instance
+-- ---- the visible knowledge about an instance
 
 module _ (m : Membership) (slots : List (Option SlotState)) (rs : List (List Interval)) (now : InstancesState)
     (shown : instances_in m slots rs ≡ now) where
@@ -43,19 +44,19 @@ module _ (m : Membership) (slots : List (Option SlotState)) (rs : List (List Int
       subst (λ (s : InstancesState). has_slot s j ≡ is_some (stored_at slots j)) shown
       (get_or-map-instances (λ i. is_some (stored_at slots i)) j false small)
 
--- what is known of an instance is what its slot says
+-- If a slot is stored at an instance, it contains the knowledge about the instance.
 pub instance_there : (m : Membership) (slots : List (Option SlotState)) (rs : List (List Interval)) (j : ℕ)
     (s : SlotState)
     → stored_at slots j ≡ Some s → instance_slot_in m slots rs j ≡ s
 instance_there m slots rs j s e = ap (λ o. unwrap_or o (slot_by_skip m (is_in_skipped m rs j))) e
 
--- of an instance at which no slot is stored, nothing was promised, accepted, tried or proposed
+-- If no slot is stored at an instance, the server promised, tried and proposed nothing there.
 pub by_skip_quiet : (m : Membership) (a : Bool)
     → ((slot_by_skip m a).promised ≡ 0) × ((slot_by_skip m a).trying ≡ 0) × ((slot_by_skip m a).proposal ≡ None)
 by_skip_quiet m true = (refl, refl, refl)
 by_skip_quiet m false = (refl, refl, refl)
 
--- two states that agree at each instance are the same
+-- Two records of instances are equal if they agree at each instance.
 pub same_instances : (m : Membership) (f g : ℕ → SlotState) (a test : ℕ → Bool)
     → ((j : ℕ) → j < instance_count → f j ≡ g j)
     → ((j : ℕ) → j < instance_count → a j ≡ test j)
@@ -63,7 +64,7 @@ pub same_instances : (m : Membership) (f g : ℕ → SlotState) (a test : ℕ �
     (record { members = m; slots = map g instances; is_stored = map test instances })
 same_instances m f g a test e h = rw (map-instances_same f g (new_slot m) e, map-instances_same a test false h)
 
--- ---- nothing yet
+-- ---- no knowledge yet
 
 pub no_intervals_more : (xs : List (List Interval)) → ((q : ℕ) → get_or xs q [] ≡ []) → (q : ℕ)
     → get_or (xs ++ [] ∷ []) q [] ≡ []
@@ -94,7 +95,7 @@ module _ (m : Membership) (slots : List (Option SlotState)) (rs : List (List Int
       (λ j. false)
       (λ j small. by_skip_at j) (λ j small. ap is_some (empty j))
 
--- ---- a slot comes to be stored
+-- ---- storing a slot
 
 module _ (m : Membership) (slots new : List (Option SlotState)) (rs : List (List Interval)) (i : ℕ)
     (empty : stored_at slots i ≡ None)
@@ -154,7 +155,7 @@ stored_has m slots new rs i small s stored =
     get_or-map-instances (λ j. is_some (stored_at new j)) i false small
     ∙ ap is_some (stored i ∙ ap (λ bit. cond bit (Some s) (stored_at slots i)) (eq-eqb i i refl))
 
--- what was known of an instance is what its slot says, once it is stored
+-- Once a slot is stored at an instance, it contains the earlier knowledge about the instance.
 pub stored_slot : (m : Membership) (slots : List (Option SlotState)) (rs : List (List Interval))
     (now stored : InstancesState) (i : ℕ) (x : SlotState) → instances_in m slots rs ≡ stored
     → stored ≡ with_stored now i
@@ -162,7 +163,7 @@ pub stored_slot : (m : Membership) (slots : List (Option SlotState)) (rs : List 
 stored_slot m slots rs now stored i x shown ok small there =
     sym (ap (λ (s : InstancesState). instance_slot s i) ok) ∙ seen_some m slots rs stored shown i x small there
 
--- a slot that is stored already
+-- If a slot is stored already, storing one changes nothing.
 pub stored_already : (m : Membership) (slots : List (Option SlotState))
     (rs : List (List Interval)) (now : InstancesState) (i : ℕ) → instances_in m slots rs ≡ now
     → is_some (stored_at slots i) ≡ true
@@ -176,7 +177,7 @@ stored_already m slots rs now i shown there =
     with_is_stored : List Bool → InstancesState
     with_is_stored xs = record { members = m; slots = map (instance_slot_in m slots rs) instances; is_stored = xs }
 
--- ---- a slot is changed where it is stored
+-- ---- changing a slot in place
 
 module _ (m : Membership) (slots new : List (Option SlotState)) (rs : List (List Interval)) (i : ℕ) (old y : SlotState)
     (there : stored_at slots i ≡ Some old) (written : new ≡ set slots i (Some y)) where
@@ -244,7 +245,7 @@ module _ (m : Membership) (slots new : List (Option SlotState)) (rs : List (List
       (λ (off : j ≡ i → ⊥). rw (at_off j off) e)
       (cases_eq j i)
 
-  -- where the instance is not the least unlearned one, that stays
+  -- If another instance changes, the lowest unlearned instance stays the same.
   pub written_sound : (low : ℕ) → i < instance_count → (is_none old.learned ≡ false → is_none y.learned ≡ false)
       → (low ≡ i → ⊥) → AreSlotsAndSkips m slots rs low → AreSlotsAndSkips m new rs low
   written_sound low inside stays off h = record {
@@ -255,7 +256,7 @@ module _ (m : Membership) (slots new : List (Option SlotState)) (rs : List (List
     least = λ l. rw (at_off low off) (h.least l);
   }
 
-  -- where it is, the least one is found anew
+  -- If the lowest unlearned instance changes, the search from it finds the new one.
   pub written_sound_from : (low next : ℕ) → i < instance_count
       → (is_none old.learned ≡ false → is_none y.learned ≡ false) → next ≤ instance_count
       → ((j : ℕ) → low ≤ j → j < next → is_none (instance_slot_in m new rs j).learned ≡ false)
@@ -271,7 +272,7 @@ module _ (m : Membership) (slots new : List (Option SlotState)) (rs : List (List
     least = least;
   }
 
-  -- where what was learned is as before, so is the least unlearned instance
+  -- If the learned value of the changed slot stays, the lowest unlearned instance stays the same.
   pub written_quiet : (low : ℕ) → i < instance_count → y.learned ≡ old.learned → AreSlotsAndSkips m slots rs low
       → AreSlotsAndSkips m new rs low
   written_quiet low inside same h = record {
@@ -288,14 +289,14 @@ module _ (m : Membership) (slots new : List (Option SlotState)) (rs : List (List
       stays : is_none old.learned ≡ false → is_none y.learned ≡ false
       stays e = ap is_none same ∙ e
 
--- an answer leaves what was learned
+-- The answer to a Prepare leaves a learned slot learned.
 answered_learned : (s : SlotState) (b : ℕ) (answer : Answer) → is_none s.learned ≡ false
     → is_none (after_answer s b answer).learned ≡ false
 answered_learned s b (Promised x) h = h
 answered_learned s b (Known x) h = h
 answered_learned s b Silent h = h
 
--- and so does each change
+-- Each change leaves a learned slot learned.
 pub change_learned : (s : SlotState) (a : Change) → is_none s.learned ≡ false
     → is_none (slot_after_change s a).learned ≡ false
 change_learned s (Prepare b) h = answered_learned s b (prepare_answer s b) h
@@ -334,7 +335,7 @@ none_there (Some x) a e fails = absurd (cc)
 pub some_there : {A : Type 0} (o : Option A) → is_some o ≡ true → IsSome o
 some_there o e = e
 
--- how many slots are stored
+-- The number of stored slots is the number of instances that have a stored slot.
 pub stored_count : (m : Membership) (slots : List (Option SlotState)) (rs : List (List Interval)) (now : InstancesState)
     → instances_in m slots rs ≡ now → length slots ≡ instance_count
     → count_by is_some slots ≡ count_by (λ a. a) now.is_stored

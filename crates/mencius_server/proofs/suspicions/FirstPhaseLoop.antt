@@ -1,5 +1,5 @@
--- One step of the loop that starts first phases: at an instance of an interval, and past instances at which none
--- starts.
+-- Each step of the loop that starts first phases is right, at an instance of the interval and past instances where no
+-- phase starts.
 use Rattle.std.proofs.Common.{◌≡◌, ℕ, ◌+◌, ◌<◌, ◌≤◌, Bool, true, false, cond, ◌&&◌, ◌++◌, List, Option, None, Some, eqb, refl, sym, ◌∙◌, ap, arith, ⊎_elim}
 use Rattle.std.specs.Prelude.{is_none}
 use Rattle.std.specs.Option.{option_map}
@@ -13,13 +13,13 @@ use Rattle.mencius_server.proofs.suspicions.FirstPhases.{HasRoomFrom, IsSentUpTo
 use Rattle.mencius_server.proofs.stored.InstanceGaps.{room_gap, sent_gap}
 use Rattle.mencius_server.proofs.stored.IntervalLoops.{IsWalked, phase_in, prepare_here, unlearned_in, walked_more, written_here, written_off}
 
--- where none starts, the slot stays
+-- If no first phase starts at an instance, its slot stays as it was.
 pub phase_none : (a : OwnedInterval) (p j : ℕ) (ss : List (Option SlotState)) → is_covered_slot a ss j ≡ false
     → stored_after_phase a p j (stored_at ss j) ≡ stored_at ss j
 phase_none a p j ss e = ap
     (λ bit. cond bit (option_map (slot_after_phase a.members p) (stored_at ss j)) (stored_at ss j)) e
 
--- a first phase teaches nothing
+-- A first phase teaches nothing, so an unlearned slot stays unlearned.
 phase_unlearned : (a : OwnedInterval) (p j : ℕ) (o : Option SlotState)
     → is_unlearned (stored_after_phase a p j o) ≡ is_unlearned o
 phase_unlearned a p j None = none (is_in a j && false)

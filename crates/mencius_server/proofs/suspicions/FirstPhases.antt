@@ -1,4 +1,4 @@
--- A loop over the slots that starts first phases at some.
+-- A loop over slots starts first phases and sends Prepares, and the outbox has room for all of them.
 use Rattle.std.proofs.Common.{◌≡◌, ℕ, zero, suc, ◌+◌, ◌*◌, ◌/◌, ◌<◌, ◌≤◌, Option, Some, Bool, true, false, cond, eqb, List, [], ◌∷◌, ◌++◌, filter, length, map, max, refl, sym, ◌∙◌, ap, subst, arith, append-nil, append_assoc, ⊎_elim}
 use Rattle.std.specs.List.{count_by, list_any}
 use Rattle.std.specs.Prelude.{is_none, slice_get, ◌&&◌}
@@ -20,7 +20,7 @@ use Rattle.mencius_server.proofs.invariant.ServerInvariant.{FitsAt-slot, KeepsAt
 use Rattle.mencius_server.proofs.invariant.SlotFits.{FitsAt-cond}
 use Rattle.mencius_base.specs.Limits.{greatest_round, instance_count}
 
--- the messages for the places before i that pass stand after those before
+-- The messages for the places below i that pass the test come after the earlier messages.
 pub record IsSentUpTo (f : ℕ → Message) (test : ℕ → Bool) (before after : List Message) (i : ℕ) : Type 0 where
   pub sent : after ≡ before ++ map f (filter test (numbers_below i))
 
@@ -45,7 +45,7 @@ sent_more f test before after new all i here pushed old = record {
       ∙ ap (map f) (sym (filter-below_more test i)));
 }
 
--- there is room for the places from i on
+-- There is room for one message for each place from i on that is below n and passes the test.
 pub record HasRoomFrom (test : ℕ → Bool) (n room i : ℕ) : Type 0 where
   pub enough : count_by test (numbers_below n) ≤ room + count_by test (numbers_below i)
 
@@ -64,13 +64,13 @@ pub room_more : (test : ℕ → Bool) (n room new i : ℕ) → new + cond (test 
     → HasRoomFrom test n new (i + 1)
 room_more test n room new i used has = record { enough = omega (arith, count_by-below_more test i, used, has.enough) }
 
--- rounds are ordered as ballots are
+-- Rounds have the same order as their ballots.
 pub rounds_ordered : (k a b : ℕ) → a ≤ b → a / k ≤ b / k
 rounds_ordered zero a b less = omega (arith, div-zero a)
 rounds_ordered (suc k) a b less =
     (le-div_iff_mul-le {k = suc k} {x = a / suc k} {y = b} (omega arith)).1 (omega (arith, less, div-mul-le_self a (suc k)))
 
--- the round after it is the next one
+-- After a slot starts its next first phase, its next round is greater by one.
 pub round_next : (m : Membership) (p : ℕ) (s : SlotState) → p < m.count
     → next_round_of m (with_next_phase m p s) ≡ next_round_of m s + 1
 round_next m p s member =
@@ -81,7 +81,7 @@ round_next m p s member =
 abbrev slots_after_suspect : ServerState → ℕ → List SlotState
 slots_after_suspect s q = map (λ (j : ℕ). slot_after_suspect s.members s.id q (reach_at s q) j (slot s j)) instances
 
--- a server keeps what it keeps through a suspicion of another
+-- A server still has the facts of every server after its suspicion of another server.
 pub IsServer-suspect : (s : ServerState) (q : ℕ) → (s.id ≡ q → ⊥) → IsServer s → IsServer (after_suspect s q)
 IsServer-suspect s q other kept = record {
   member = kept.member;
@@ -119,7 +119,7 @@ IsServer-suspect s q other kept = record {
         (KeepsAt-new s s.front i))
         (cases_lt i instance_count)
 
--- ---- why a suspicion is refused
+-- ---- the cause for which a suspicion is refused
 
 none_given : (g : ℕ → Bool) (xs : List ℕ) → is_none (slice_get (filter g xs) 0) ≡ eqb (count_by g xs) 0
 none_given g xs = go (filter g xs) ∙ ap (λ (n : ℕ). eqb n 0) (length-filter g xs) where
@@ -150,7 +150,8 @@ rounds_small s q none j small covered =
     (λ (room : is_spent_at s j ≡ false). ltb-false greatest_round (next_round_of s.members (slot s j)) room)
     (cases_Bool (is_spent_at s j))
 
--- what holds of each slot at which a first phase began, where it holds of one more
+-- A fact holds for all slots that began a first phase before place `next` if it holds for those before i and for the
+-- slot at i.
 pub phase_each : (begins : ℕ → Bool) (now new : ℕ → Option SlotState) (Holds : SlotState → Type 0) (i next : ℕ)
     → ((j : ℕ) → i + 1 ≤ j → j < next → begins j ≡ false)
     → ((j : ℕ) → (j ≡ i → ⊥) → new j ≡ now j)

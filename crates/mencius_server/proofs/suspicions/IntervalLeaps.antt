@@ -1,11 +1,11 @@
--- Intervals of instances that are not open: one more is kept, and one is leapt over.
+-- Intervals of learned instances stay right when an interval is recorded, and a search may leap over them.
 use Rattle.std.proofs.Common.{◌≡◌, ℕ, ◌+◌, ◌<◌, ◌≤◌, Bool, false, List, cond, eqb, ltb, sym, ◌∙◌, ap, subst, arith, inl, inr, ◌⊎◌, ⊎_elim}
 use Rattle.std.proofs.lemmas.Bool.{cases_eq, cases_lt, eq-eqb, le-ltb, lt-ltb, ne_eqb}
 use Rattle.mencius_base.specs.Limits.{greatest_front, instance_count}
 use Rattle.mencius_base.specs.Members.{Membership, owner}
 use Rattle.mencius_server.specs.LearnedIntervals.{AreLearnedIntervals, interval_end}
 
--- none is known
+-- If no interval is known, the table of intervals is right.
 pub no_learned_intervals : (m : Membership) (f : ℕ → Bool) (ends : List ℕ) → ((i : ℕ) → interval_end ends i ≡ 0)
     → AreLearnedIntervals m f ends
 no_learned_intervals m f ends none = record {
@@ -14,7 +14,7 @@ no_learned_intervals m f ends none = record {
   closed = λ i j from less own small. absurd (omega (arith, less, none i));
 }
 
--- what is not open stays so
+-- The table stays right if no further instance becomes open.
 pub intervals_stay : (m : Membership) (f g : ℕ → Bool) (ends : List ℕ)
     → ((j : ℕ) → j < instance_count → f j ≡ false → g j ≡ false) → AreLearnedIntervals m f ends
     → AreLearnedIntervals m g ends
@@ -24,12 +24,12 @@ intervals_stay m f g ends stays h = record {
   closed = λ i j from less own small. stays j small (h.closed i j from less own small);
 }
 
--- the same members
+-- The table is also right for an equal membership.
 pub intervals_of : (m n : Membership) (f : ℕ → Bool) (ends : List ℕ) → m ≡ n → AreLearnedIntervals m f ends
     → AreLearnedIntervals n f ends
 intervals_of m n f ends same h = subst (λ (x : Membership). AreLearnedIntervals x f ends) same h
 
--- one more is kept
+-- The table stays right when another interval without open instances is recorded.
 pub interval_put : (m : Membership) (f : ℕ → Bool) (ends more : List ℕ) (first end : ℕ)
     → ((i : ℕ) → interval_end more i ≡ cond (eqb i first) end (interval_end ends i))
     → owner m end ≡ owner m first → end ≤ greatest_front
@@ -57,7 +57,7 @@ interval_put m f ends more first end puts own near closed h = record {
     there : (i : ℕ) → (i ≡ first → ⊥) → interval_end more i ≡ interval_end ends i
     there i off = puts i ∙ ap (λ bit. cond bit end (interval_end ends i)) (ne_eqb i first off)
 
--- the place behind an instance: the end of the interval that is known to begin there, or the next instance
+-- The place after an instance is the end of the interval that is known to begin there, or the next instance.
 module _ (m : Membership) (ends : List ℕ) (i next past : ℕ)
     (is : past ≡ cond (ltb i (interval_end ends i)) (interval_end ends i) next) (above : i + 1 ≤ next)
     (owned : owner m next ≡ owner m i) where

@@ -1,4 +1,4 @@
--- The instances of a server at which a suspicion may begin.
+-- The interval of a suspicion contains all instances that the suspicion covers.
 use Rattle.std.proofs.Common.{◌≡◌, ℕ, ◌<◌, ◌≤◌, Bool, true, false, ◌&&◌, not, List, Option, None, Some, refl, sym, ◌∙◌, ap, subst, arith, ⊎_elim}
 use Rattle.std.specs.Prelude.{is_none}
 use Rattle.std.proofs.lemmas.Bool.{and_left, cases_eq, cases_lt, eq-eqb, lt-ltb, ne_eqb}
@@ -15,7 +15,7 @@ use Rattle.mencius_server.proofs.stored.InstanceGaps.{skipped_here, unowned, unr
 use Rattle.mencius_server.proofs.stored.StoredInstances.{seen_none, seen_some}
 use Rattle.mencius_base.specs.Limits.{instance_count}
 
--- before a server's least instance none is open
+-- A suspicion covers no instance below the first instance of the suspected server.
 pub open_before : (m : Membership) (slots : List (Option SlotState)) (rs : List (List Interval)) (now : InstancesState)
     → instances_in m slots rs ≡ now → (q reach first : ℕ) → ((i : ℕ) → 0 ≤ i → owner m i ≡ q → first ≤ i)
     → (j : ℕ) → j < first → is_covered_stored now q reach j ≡ false
@@ -24,12 +24,12 @@ open_before m slots rs now shown q reach first least j high =
     subst (λ n. is_covered_in n q reach j (instance_slot now j) ≡ false) members
     (unrevoked_other m q reach j (instance_slot now j) (unowned m q 0 first least j (omega arith) high))
 
--- where no slot is stored, an instance is open unless a skipped interval has it
+-- An instance without a stored slot is open unless it lies in a skipped interval.
 pub open_by_skip : (m : Membership) (a : Bool) → is_none (slot_by_skip m a).learned ≡ not a
 open_by_skip m true = refl
 open_by_skip m false = refl
 
--- what was skipped is learned
+-- A skipped instance is learned.
 pub skipped_learned : (m : Membership) (slots : List (Option SlotState))
     (rs : List (List Interval)) (low : ℕ) (now : InstancesState) → instances_in m slots rs ≡ now
     → AreSlotsAndSkips m slots rs low
@@ -65,7 +65,7 @@ module _ (now : InstancesState) (a : OwnedInterval) (interval : IsOwnedInterval 
         ap (λ bit. bit && is_none (instance_slot now j).learned)
         (skipped_here a.members a.server a.first a.stop j (ap (λ n. owner n j) members ∙ own) low high)
 
--- the instances of an interval that are not learned are those that a suspicion covers
+-- The unlearned instances of the interval are the instances that the suspicion covers.
 pub open_same : (now : InstancesState) (q reach : ℕ) (a : OwnedInterval) → IsOpenInterval now q reach a → (j : ℕ)
     → j < instance_count → is_open_in now a j ≡ is_covered_stored now q reach j
 open_same now q reach a h j small =

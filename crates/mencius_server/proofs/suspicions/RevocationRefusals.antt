@@ -1,4 +1,4 @@
--- What is counted of a server's instances says why a suspicion of it is refused.
+-- The survey of a suspicion gives the cause for which the suspicion is refused.
 use Rattle.std.proofs.Common.{◌≡◌, ℕ, ◌<◌, ◌≤◌, true, Some, cond, eqb, filter, sym, ◌∙◌, ap}
 use Rattle.std.specs.List.{count_by, list_any}
 use Rattle.std.specs.Prelude.{nat_lt}
@@ -24,7 +24,7 @@ module _ (m : Membership) (p f : ℕ) (x : InstancesState) (now : ServerState) (
   spent_is : nat_lt 0 a.spent_count ≡ list_any (is_spent_at now) (filter (is_covered_at now q) instances)
   spent_is = survey.spent_count ∙ spent_shown m p f x now q shown same reach at
 
-  -- the suspicion is refused for what the survey shows
+  -- The cause of refusal by the server's state is the cause by the survey.
   pub cause_is : (o : OutboxState) → (p ≡ q → ⊥) → suspect_cause now o q ≡ tally_cause a o
   cause_is o other =
       suspect_cause_is now o q (eqb a.open_count 0) (nat_lt 0 a.spent_count)

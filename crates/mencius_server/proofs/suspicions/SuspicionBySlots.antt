@@ -1,4 +1,4 @@
--- A suspicion, by the slots that are stored and the intervals that were skipped.
+-- A suspicion changes the stored slots, and sends Prepares, as the rule of a suspicion says.
 use Rattle.std.proofs.Common.{◌≡◌, ℕ, zero, suc, ◌+◌, ◌-◌, ◌/◌, ◌<◌, ◌≤◌, Bool, true, false, cond, ◌&&◌, ◌||◌, not, List, [], ◌∷◌, ◌++◌, Option, None, Some, filter, get_or, map, refl, sym, ◌∙◌, ap, subst, arith, inl, inr}
 use Rattle.std.specs.Prelude.{is_none, is_some, unwrap_or}
 use Rattle.std.specs.List.{count_by}
@@ -29,14 +29,14 @@ use Rattle.mencius_server.proofs.suspicions.IntervalLeaps.{intervals_of, interva
 use Rattle.mencius_server.proofs.suspicions.SuspicionReach.{clash}
 use Rattle.mencius_base.specs.Limits.{greatest_round, instance_count}
 
--- what lies in an interval is its server's, and below its end
+-- An instance of an interval belongs to its server and lies below its end.
 in_own : (a : OwnedInterval) (j : ℕ) → is_in a j ≡ true → owner a.members j ≡ a.server
 in_own a j e = sym (eqb-true _ _ (and_parts _ _ (and_parts _ _ e).0).0)
 
 in_low : (a : OwnedInterval) (j : ℕ) → is_in a j ≡ true → j < a.stop
 in_low a j e = ltb-true j a.stop (and_parts _ _ e).1
 
--- messages for the instances that pass, where tests and messages are the same
+-- Two lists of messages are equal if their tests agree and their messages agree at each place that passes.
 sent_same : (f g : ℕ → Message) (a test : ℕ → Bool) (n : ℕ) → ((j : ℕ) → j < n → a j ≡ test j)
     → ((j : ℕ) → j < n → a j ≡ true → f j ≡ g j)
     → map f (filter a (numbers_below n)) ≡ map g (filter test (numbers_below n))
@@ -55,7 +55,7 @@ sent_same f g a test (suc n) e h =
     last true same = rw same (ap (λ x. x ∷ []) (h n (omega arith) same))
     last false same = rw same refl
 
--- rounds are left where nothing was heard
+-- An instance without a stored slot has a further round.
 unspent_by_skip : (m : Membership) (a : Bool) → is_spent m (slot_by_skip m a) ≡ false
 unspent_by_skip m a = go a (0 / m.count) refl (zero-div m.count)
   where
@@ -72,7 +72,7 @@ module _ (m : Membership) (slots : List (Option SlotState)) (rs : List (List Int
   in_small : (j : ℕ) → is_in a j ≡ true → j < instance_count
   in_small j e = let l = in_low a j e in omega (arith, l, small)
 
-  -- ---- slots come to be stored
+  -- ---- storing slots
   module _ (r d : List Interval) (member : a.server < a.members.count) (indexed : r ≡ get_or rs a.server d) where
     same_intervals : r ≡ get_or rs a.server []
     same_intervals =
@@ -84,7 +84,7 @@ module _ (m : Membership) (slots : List (Option SlotState)) (rs : List (List Int
         ap (λ xs. is_in_any xs j)
         (same_intervals ∙ ap (λ y. get_or rs y []) (sym (in_own a j e) ∙ ap (λ n. owner n j) members))
 
-    -- an instance where no slot is stored is open where one is lacking
+    -- An instance without a stored slot is open exactly if it lacks a slot.
     open_bare : (j : ℕ) → j < instance_count → stored_at slots j ≡ None
         → (is_in a j && not (is_in_any r j)) ≡ is_open_in now a j
     open_bare j l e = elim (cases_Bool (is_in a j)) [
@@ -105,7 +105,7 @@ module _ (m : Membership) (slots : List (Option SlotState)) (rs : List (List Int
     lacking_open j l (Some s) e h =
         absurd (clash (is_none (stored_at slots j)) (and_parts _ _ (and_parts _ _ h).1).1 (ap is_none e))
 
-    -- nowhere along intervals of learned instances one is lacking
+    -- No instance in an interval of learned instances lacks a slot.
     pub lacking_intervals : (ends : List ℕ)
         → AreLearnedIntervals m (λ j. is_none (instance_slot_in m slots rs j).learned) ends
         → AreLearnedIntervals a.members (is_lacking a r slots) ends
@@ -203,7 +203,7 @@ module _ (m : Membership) (slots : List (Option SlotState)) (rs : List (List Int
                 sym stored ∙ new_slot_none j e ∙ ap (λ bit. cond bit (Some (new_slot a.members)) None) z in absurd (cc)
           ]
 
-  -- ---- first phases at slots that are stored
+  -- ---- first phases at stored slots
   module _ (stored : (j : ℕ) → j < instance_count → is_open_in now a j ≡ true → has_slot now j ≡ true) where
     phase_is : (j : ℕ) → j < instance_count → (o : Option SlotState) → stored_at slots j ≡ o
         → is_covered_slot a slots j ≡ is_open_in now a j
@@ -216,7 +216,7 @@ module _ (m : Membership) (slots : List (Option SlotState)) (rs : List (List Int
           | inr z ↦ z
         ])
 
-    -- where something was learned, none is started
+    -- No first phase starts at a learned instance.
     closed_slots : (j : ℕ) → j < instance_count → is_none (instance_slot_in m slots rs j).learned ≡ false
         → is_covered_slot a slots j ≡ false
     closed_slots j l learned =
@@ -298,7 +298,7 @@ module _ (m : Membership) (slots : List (Option SlotState)) (rs : List (List Int
           made true true h = rw h refl
           made true false h = rw h refl
 
-      -- what is known of an instance that is not open is as before
+      -- The knowledge about an instance that is not open stays as it was.
       phase_closed : (j : ℕ) → j < instance_count → is_open_in now a j ≡ false
           → instance_slot_in m new rs j ≡ instance_slot_in m slots rs j
       phase_closed j l closed =
@@ -348,7 +348,7 @@ module _ (m : Membership) (slots : List (Option SlotState)) (rs : List (List Int
           kept true = refl
           kept false = refl
 
-      -- the intervals that were passed are of learned instances
+      -- The intervals that the loop passed contain only learned instances.
       pub phase_passes : (old ends : List ℕ) → PassesLearnedIntervals a slots old ends
           → AreLearnedIntervals m (λ j. is_none (instance_slot_in m slots rs j).learned) old
           → AreLearnedIntervals m (λ j. is_none (instance_slot_in m new rs j).learned) ends
@@ -368,7 +368,8 @@ module _ (m : Membership) (slots : List (Option SlotState)) (rs : List (List Int
               ∙ ap (λ bit. bit && is_none (instance_slot now j).learned) (sym inside)
               ∙ sym (phase_is j l (stored_at slots j) refl) ∙ and_right _ _ off
 
-      -- where no first phase is in the last round, as many instances are open, and none of them is spent
+      -- If no first phase is in the last round, the number of open instances stays the same, and each of them has a
+      -- further round.
       module _ (rounds : (j : ℕ) → j < instance_count → is_open_in now a j ≡ true
           → next_round_of now.members (instance_slot now j) ≤ greatest_round)
           (last : (j : ℕ) (s : SlotState) → is_covered_slot a slots j ≡ true → stored_at new j ≡ Some s

@@ -1,4 +1,4 @@
--- How far a suspicion reaches, by the least instance that is not learned.
+-- The code finds the reach of a suspicion from the lowest unlearned instance of the suspected server.
 use Rattle.std.proofs.Common.{◌≡◌, ℕ, ◌+◌, ◌*◌, ◌<◌, ◌≤◌, Bool, true, false, List, Option, None, Some, min, refl, sym, ◌∙◌, ap, arith, ⊎_elim}
 use Rattle.std.specs.Prelude.{is_none}
 use Rattle.std.specs.List.{find}
@@ -14,7 +14,7 @@ use Rattle.mencius_server.specs.Instances.{InstancesState, instance_slot, instan
 use Rattle.mencius_server.specs.declared.skipped_intervals.Interval.{Interval}
 use Rattle.mencius_server.proofs.stored.StoredInstances.{seen}
 
--- a server's first instance has its number
+-- The instance with the number of a server belongs to that server.
 pub first_own : (m : Membership) (q : ℕ) → q < m.count → owner m q ≡ q
 first_own m q member = mod-eq_of_lt member
 
@@ -39,7 +39,7 @@ module _ (m : Membership) (slots : List (Option SlotState)) (rs : List (List Int
       ap (λ n. is_open_from n q j (instance_slot now j).learned) members
       ∙ ap (λ (s : SlotState). is_open_from m q j s.learned) (seen m slots rs now shown j small)
 
-  -- nothing is open before the first
+  -- No instance of the suspected server below its first open one is open.
   closed : (j : ℕ) → j < first → j < instance_count → is_open_stored now q j ≡ false
   closed j less small =
       open_is j small

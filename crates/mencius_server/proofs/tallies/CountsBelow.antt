@@ -1,4 +1,4 @@
--- For how many numbers below a place a test holds, and how that changes with the place and the test.
+-- The number of places below a bound that pass a test, and its changes with the bound and with the test.
 use Rattle.std.proofs.Common.{◌≡◌, ℕ, zero, suc, ◌+◌, ◌-◌, ◌<◌, ◌≤◌, Bool, true, false, refl, sym, ◌∙◌, ap, arith, inl, inr, ⊎_elim}
 use Rattle.std.specs.Prelude.{nat_lt}
 use Rattle.std.specs.List.{count_by, list_any}
@@ -22,7 +22,7 @@ pub count_one : (f : ℕ → Bool) (i n : ℕ) → i < n → bit (f i) ≤ count
 count_one f i n less =
     omega (arith, count_by-below_more f i, count_by-below_le f (i + 1) n (omega arith))
 
--- what passes one test passes another
+-- If each place that passes one test also passes another, the second count is at least the first.
 pub count_less : (f g : ℕ → Bool) (n : ℕ) → ((j : ℕ) → j < n → f j ≡ true → g j ≡ true)
     → count_by f (numbers_below n) ≤ count_by g (numbers_below n)
 count_less f g zero h = omega (arith, count_by-below_zero f, count_by-below_zero g)
@@ -36,7 +36,7 @@ count_less f g (suc n) h =
     bit_less false d each = omega arith
     bit_less true d each = let one : bit d ≡ 1 = ap bit (each refl) in omega (arith, one)
 
--- two tests that differ at one place
+-- The counts of two tests that differ at one place differ only by the results of the tests at that place.
 pub count_but : (f g : ℕ → Bool) (n i : ℕ) → i < n → ((j : ℕ) → (j ≡ i → ⊥) → f j ≡ g j)
     → count_by f (numbers_below n) + bit (g i) ≡ count_by g (numbers_below n) + bit (f i)
 count_but f g zero i less same = absurd (omega arith)
@@ -54,7 +54,7 @@ count_but f g (suc n) i less same =
     omega (arith, more_f, more_g, before, here))
     (cases_eq i n))
 
--- something passes where the count is not zero
+-- Some instance passes a test exactly if its count is above 0.
 pub any_counted : (f : ℕ → Bool) → list_any f instances ≡ nat_lt 0 (count_by f instances)
 any_counted f = elim (cases_Bool (list_any f instances)) [
   | inl some ↦
@@ -75,7 +75,7 @@ any_counted f = elim (cases_Bool (list_any f instances)) [
       | inr fails ↦ fails
     ]
 
--- what passes between two places, by another test that agrees there
+-- If two tests agree between two places, their counts grow by the same number between them.
 pub count_between : (f g : ℕ → Bool) (a n : ℕ) → a ≤ n → ((j : ℕ) → a ≤ j → j < n → f j ≡ g j)
     → count_by f (numbers_below n) + count_by g (numbers_below a) ≡ count_by g (numbers_below n) + count_by f (numbers_below a)
 count_between f g a zero h same = let e : a ≡ 0 = omega arith in rw e (omega arith)
@@ -91,7 +91,7 @@ count_between f g a (suc n) h same =
     rw next (omega (arith, count_by-below_more f n, count_by-below_more g n, before, here)))
     (cases_eq a (suc n))
 
--- where none passes, the count stays
+-- If no place between two places passes the test, the count stays the same.
 pub count_still : (f : ℕ → Bool) (a n : ℕ) → a ≤ n → ((j : ℕ) → a ≤ j → j < n → f j ≡ false)
     → count_by f (numbers_below n) ≡ count_by f (numbers_below a)
 count_still f a n h none =

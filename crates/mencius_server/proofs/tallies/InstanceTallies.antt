@@ -1,4 +1,4 @@
--- What is counted of each server's instances, as they change.
+-- The tallies of all servers stay right as their instances change.
 use Rattle.std.proofs.Common.{◌≡◌, ℕ, ◌+◌, ◌-◌, ◌<◌, ◌≤◌, Bool, true, false, cond, ◌&&◌, List, Option, eqb, min, refl, sym, ◌∙◌, ap, subst, arith, ⊎_elim}
 use Rattle.std.specs.Prelude.{is_none, nat_lt}
 use Rattle.std.specs.List.{count_by}
@@ -20,7 +20,7 @@ use Rattle.mencius_server.specs.Machine.{is_spent}
 use Rattle.mencius_server.proofs.tallies.CountsBelow.{any_counted}
 use Rattle.mencius_server.proofs.tallies.OneTally.{IsAlike, alike_same, tally_after_is, tally_alike, tally_none}
 
--- ---- what a suspicion would revoke
+-- ---- the instances that a suspicion would revoke
 
 module _ (m : Membership) (slots : List (Option SlotState)) (rs : List (List Interval)) (now : InstancesState)
     (shown : instances_in m slots rs ≡ now) (q reach : ℕ) (d : Tally) (h : IsTally m (instance_slot_in m slots rs) q d)
@@ -79,13 +79,13 @@ module _ (m : Membership) (slots : List (Option SlotState)) (rs : List (List Int
 
 -- ---- the tallies of all servers
 
--- where a change was refused
+-- The fields of the instances still fit together after a change was refused.
 pub unchanged : (m : Membership) (slots new : List (Option SlotState)) (rs : List (List Interval)) (low : ℕ)
     (tallies : List Tally) (ends : List ℕ) → new ≡ slots → IsInstancesInside m slots rs low tallies ends
     → IsInstancesInside m new rs low tallies ends
 unchanged m slots new rs low tallies ends same h = subst (λ ss. IsInstancesInside m ss rs low tallies ends) (sym same) h
 
--- nothing was counted
+-- The fields of the instances fit together if nothing was counted and no interval is known.
 pub uncounted : (m : Membership) (slots : List (Option SlotState)) (rs : List (List Interval)) (low : ℕ)
     (tallies : List Tally) (ends : List ℕ) → AreSlotsAndSkips m slots rs low
     → ((q : ℕ) → tally_of tallies q ≡ no_tally) → ((i : ℕ) → interval_end ends i ≡ 0)
@@ -96,7 +96,7 @@ uncounted m slots rs low tallies ends sound none start = record {
   learned_intervals = no_learned_intervals m _ ends start;
 }
 
--- what is counted of each instance is as before
+-- All tallies stay right if each instance still counts the same.
 pub counts_kept : (m : Membership) (slots new : List (Option SlotState)) (rs intervals : List (List Interval))
     (low next : ℕ)
     (tallies : List Tally) (ends : List ℕ) → AreSlotsAndSkips m new intervals next
@@ -110,7 +110,7 @@ counts_kept m slots new rs intervals low next tallies ends sound alike h = recor
       h.learned_intervals;
 }
 
--- one slot is another one
+-- All tallies are right after one slot changes and the tally of its owner is updated.
 pub counts_after : (m : Membership) (slots new : List (Option SlotState)) (rs : List (List Interval)) (low next i : ℕ)
     (tallies more : List Tally) (ends : List ℕ) (s r : SlotState) → instance_slot_in m slots rs i ≡ s
     → instance_slot_in m new rs i ≡ r
@@ -149,7 +149,8 @@ counts_after m slots new rs low next i tallies more ends s r was is rest stays m
       (cases_eq j i)) h.learned_intervals;
 }
 
--- one server's instances are counted anew, or further, and those of the others are as before
+-- All tallies are right after one server's instances are counted again or further, if all other instances still count
+-- the same.
 pub counts_put : (m : Membership) (slots new : List (Option SlotState)) (rs intervals : List (List Interval))
     (low next : ℕ)
     (tallies more : List Tally) (ends : List ℕ) (p : ℕ) → AreSlotsAndSkips m new intervals next
@@ -172,7 +173,7 @@ counts_put m slots new rs intervals low next tallies more ends p sound alike sta
   learned_intervals = intervals_stay m _ _ ends stays h.learned_intervals;
 }
 
--- other intervals are kept
+-- The fields of the instances still fit together with another table of learned intervals.
 pub intervals_kept : (m : Membership) (slots : List (Option SlotState)) (rs : List (List Interval)) (low : ℕ)
     (tallies : List Tally) (ends more : List ℕ)
     → AreLearnedIntervals m (λ j. is_none (instance_slot_in m slots rs j).learned) more

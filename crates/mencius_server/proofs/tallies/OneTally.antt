@@ -1,4 +1,4 @@
--- What is counted of one server's instances, as they change and as more of them are counted.
+-- The tally of one server stays right as its instances change and as more of them are counted.
 use Rattle.std.proofs.Common.{◌≡◌, ℕ, ◌+◌, ◌<◌, ◌≤◌, Bool, true, false, cond, ◌&&◌, List, [], Option, None, Some, eqb, get_or, length, min, refl, sym, ◌∙◌, ap, subst, arith, ⊎_elim}
 use Rattle.std.specs.Prelude.{is_none, unwrap_or}
 use Rattle.std.specs.List.{count_by}
@@ -20,7 +20,7 @@ use Rattle.mencius_base.specs.Limits.{instance_count}
 use Rattle.mencius_server.specs.Machine.{is_spent}
 use Rattle.mencius_server.proofs.tallies.CountsBelow.{count_between, count_but, count_few, count_one, count_still}
 
--- a place of another server is not counted
+-- An instance of another server is not counted.
 pub other_open : (m : Membership) (f : ℕ → SlotState) (q j : ℕ) → (owner m j ≡ q → ⊥) → is_open_of m f q j ≡ false
 other_open m f q j other = and_left _ _ (ne_eqb (owner m j) q other)
 
@@ -32,7 +32,7 @@ pub own_spent : (m : Membership) (f : ℕ → SlotState) (q j : ℕ) → owner m
     → is_spent_of m f q j ≡ (is_none (f j).learned && is_spent m (f j))
 own_spent m f q j own = ap (λ bit. (bit && is_none (f j).learned) && is_spent m (f j)) (eq-eqb (owner m j) q own)
 
--- what is counted of two slots is the same
+-- Two slots count the same.
 pub record IsAlike (m : Membership) (s r : SlotState) : Type 0 where
   pub open_count : is_none s.learned ≡ is_none r.learned
   pub spent_count : (is_none s.learned && is_spent m s) ≡ (is_none r.learned && is_spent m r)
@@ -76,7 +76,7 @@ module _ (m : Membership) (f : ℕ → SlotState) (q i : ℕ) (a : Tally) (own :
   spent_bit : bit (is_spent_of m f q i) ≡ spent_one m (f i)
   spent_bit = ap bit (own_spent m f q i own)
 
-  -- an instance below the place was counted
+  -- The slot of an instance below the end of a tally was counted.
   pub has_counted : i < a.stop → HasCounted m a (f i)
   has_counted less = record {
     open_count = omega (arith, open_bit, h.open_count, count_one (is_open_of m f q) i a.stop less);
@@ -122,7 +122,7 @@ module _ (m : Membership) (f : ℕ → SlotState) (q i : ℕ) (a : Tally) (own :
           );
         }
 
-    -- one slot is another one from now on
+    -- The tally is right after one slot changes and the tally is updated.
     pub tally_after_is : IsTally m g q (tally_after m i a (f i) (g i))
     tally_after_is =
         ⊎_elim
@@ -142,9 +142,10 @@ module _ (m : Membership) (f : ℕ → SlotState) (q i : ℕ) (a : Tally) (own :
         }))
         (cases_lt i a.stop)
 
--- ---- counting on
+-- ---- continuing a count
 
--- so many of q's instances from one place on are counted, of which the last is below another place
+-- The tally `a` counts q's instances from `first` up to, but not including, the instance i of q. No instance of q from
+-- `stop` on is below i.
 pub record IsTalliedTo (m : Membership) (f : ℕ → SlotState) (q first stop : ℕ) (a : Tally) (i : ℕ) : Type 0 where
   pub own : owner m i ≡ q
   pub over : (j : ℕ) → stop ≤ j → j < i → owner m j ≡ q → ⊥
@@ -214,7 +215,7 @@ module _ (m : Membership) (f : ℕ → SlotState) (q first stop : ℕ) where
 -- ---- counts between two places
 
 module _ (m : Membership) (f : ℕ → SlotState) (q first : ℕ) where
-  -- nothing was counted yet
+  -- Before the first instance is counted, both counts are 0 and the tally is right.
   pub from_start : (d : Tally) → d.stop ≡ first → first ≤ instance_count → d.open_count ≡ 0 → d.spent_count ≡ 0
       → IsTallyFrom m f q first d
   from_start d at small no_open no_spent = record {
@@ -231,7 +232,8 @@ module _ (m : Membership) (f : ℕ → SlotState) (q first : ℕ) where
     omega (arith, h.spent_count, h.small, count_few (is_spent_of m f q) d.stop),
   )
 
-  -- past places where nothing is open come some where another test agrees
+  -- A tally may be continued by a tally of other slots, after places where nothing more is open. The other slots must
+  -- agree with the server's slots at the counted instances.
   pub from_more : (g : ℕ → SlotState) (d x : Tally) (past : ℕ) → d.stop ≤ past
       → ((j : ℕ) → d.stop ≤ j → j < past → owner m j ≡ q → is_none (f j).learned ≡ false)
       → ((j : ℕ) → past ≤ j → j < x.stop → owner m j ≡ q → f j ≡ g j)
@@ -277,7 +279,7 @@ module _ (m : Membership) (f : ℕ → SlotState) (q first : ℕ) where
           ∙ sym (and_left _ _ (other_open m g q j other)))
           (cases_eq (owner m j) q)
 
--- what a skipped interval has is learned
+-- Each instance in a skipped interval is learned.
 pub sound_learned : (m : Membership) (slots : List (Option SlotState)) (rs : List (List Interval)) (low : ℕ)
     → AreSlotsAndSkips m slots rs low → LearnedWhereSkipped m slots rs
 sound_learned m slots rs low h j small passed = go (stored_at slots j) refl
@@ -286,7 +288,7 @@ sound_learned m slots rs low h j small passed = go (stored_at slots j) refl
     go None e = rw (e, passed) refl
     go (Some s) e = rw e (h.learned_where_skipped j s small passed e)
 
--- past an interval, where nothing is open, come instances that no skipped interval has
+-- The count jumps over an interval without open instances, and continues at instances that lie in no skipped interval.
 pub from_gap : (m : Membership) (slots : List (Option SlotState)) (rs : List (List Interval)) (q first : ℕ)
     (intervals : List Interval) (d x : Tally) (stop covered_to past end : ℕ) → LearnedWhereSkipped m slots rs
     → q < length rs
@@ -312,7 +314,7 @@ from_gap m slots rs q first intervals d x stop covered_to past end learned_where
         ap (λ q. is_in_any (get_or rs q []) j) own
         ∙ ap (λ xs. is_in_any xs j) (sym (theirs ∙ get_or_default rs q intervals [] member))
 
--- what is counted from a place on, below which nothing is open, is a tally
+-- A count from a place on is a tally if no instance below this place is open.
 pub tally_anew : (m : Membership) (f : ℕ → SlotState) (q first : ℕ) (d : Tally)
     → ((j : ℕ) → j < first → is_none (f j).learned ≡ false) → IsTallyFrom m f q first d → IsTally m f q d
 tally_anew m f q first d closed h = record {
@@ -332,7 +334,7 @@ tally_anew m f q first d closed h = record {
   );
 }
 
--- what is counted on from past the end of a tally makes it longer, if nothing in between is open
+-- The sum of a tally and a later count is a tally if no instance between the two is open.
 pub tally_further : (m : Membership) (f : ℕ → SlotState) (q first : ℕ) (a d : Tally) → a.stop ≤ first
     → ((j : ℕ) → a.stop ≤ j → j < first → is_none (f j).learned ≡ false) → IsTally m f q a
     → IsTallyFrom m f q first d → IsTally m f q (tally_sum a d)

@@ -1,4 +1,4 @@
--- What was counted of a server's instances, once no-op is learned at those of an interval.
+-- The tally of a server stays right when no-op is learned at the instances of an interval.
 use Rattle.std.proofs.Common.{◌≡◌, ℕ, ◌+◌, ◌<◌, ◌≤◌, Bool, true, false, ◌&&◌, not, min, refl, sym, ◌∙◌, ap, arith, ⊎_elim}
 use Rattle.std.specs.Prelude.{is_none}
 use Rattle.std.specs.List.{count_by}
@@ -16,7 +16,7 @@ use Rattle.mencius_server.proofs.stored.SkipStored.{learned_noop}
 use Rattle.mencius_server.proofs.intervals.RisingIntervals.{within_before, within_past}
 use Rattle.mencius_server.specs.Machine.{is_spent}
 
--- what passes below a place, once nothing between two others passes any more
+-- If the places of an interval no longer pass a test, its count falls by the number of these places that passed it.
 count_after_skip : (test r : ℕ → Bool) (first stop n end count some : ℕ) → first ≤ stop → first ≤ n → end ≡ min stop n
     → some + count_by test (numbers_below first) ≡ count_by test (numbers_below end) → count ≡ count_by test (numbers_below n)
     → ((j : ℕ) → j < n → r j ≡ (test j && not (is_between first stop j)))
@@ -52,7 +52,7 @@ module _ (a : OwnedInterval) (f : ℕ → SlotState) where
   in_own : (j : ℕ) → owner a.members j ≡ a.server → is_in a j ≡ is_between a.first a.stop j
   in_own j own = rw (eq-eqb a.server (owner a.members j) (sym own)) refl
 
-  -- nothing in the interval is open then
+  -- After the call, an instance is open exactly if it was open before and lies outside the interval.
   after_skip_open : (j : ℕ) → is_open_of a.members after a.server j
       ≡ (is_open_of a.members f a.server j && not (is_between a.first a.stop j))
   after_skip_open j =
@@ -83,7 +83,7 @@ module _ (a : OwnedInterval) (f : ℕ → SlotState) where
       go true false e = rw e (sym (and-true (is_spent a.members (f j))))
       go false d e = refl
 
-  -- where the interval has no place below the end of the tally, it stays
+  -- If no place of the interval is below the end of the tally, the tally stays as it was.
   pub less_none : (y : Tally) → min a.stop y.stop ≤ a.first → IsTally a.members f a.server y
       → IsTally a.members after a.server y
   less_none y none h = record {
@@ -102,7 +102,8 @@ module _ (a : OwnedInterval) (f : ℕ → SlotState) where
           (λ (from : a.first ≤ j). within_past a.first a.stop j (omega (arith, none)))
           (cases_lt j a.first)
 
-  -- and else it loses those below its end
+  -- If a place of the interval is below the end of the tally, the tally loses the counts of the interval below that
+  -- end.
   pub less_some : (y some : Tally) → a.first < min a.stop y.stop → some.stop ≡ min a.stop y.stop
       → IsTallyFrom a.members f a.server a.first some → IsTally a.members f a.server y
       → IsTally a.members after a.server (tally_difference y some)
@@ -119,7 +120,7 @@ module _ (a : OwnedInterval) (f : ℕ → SlotState) where
       (λ j l. after_skip_spent j) in
       record { small = h.small; open_count = omega (arith, opens); spent_count = omega (arith, spent) }
 
-  -- there are as many
+  -- The counts of the interval are at most the counts of the tally.
   pub less_fits : (y some : Tally) → a.first < min a.stop y.stop → some.stop ≡ min a.stop y.stop
       → IsTallyFrom a.members f a.server a.first some → IsTally a.members f a.server y
       → (some.open_count ≤ y.open_count) × (some.spent_count ≤ y.spent_count)

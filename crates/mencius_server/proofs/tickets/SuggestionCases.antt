@@ -1,4 +1,4 @@
--- What a suggestion makes of a server, by its two tests.
+-- The effect of a suggestion on the server that hears it, in each case of its two tests.
 use Rattle.std.proofs.Common.{◌≡◌, ℕ, ◌+◌, ◌++◌, ◌∷◌, List, [], Bool, false, true, Option, Some, cond, eqb, leb, ltb, zero, suc, refl, sym, ◌∙◌, ap, arith, append-nil, append_assoc}
 use Rattle.std.proofs.lemmas.Bool.{lt-leb, ne_eqb}
 use Rattle.std.proofs.lemmas.List.{set-get_or}
@@ -14,7 +14,7 @@ use Rattle.coord_paxos.specs.Slot.{after_accept}
 use Rattle.mencius_server.specs.Machine.{after_suggest, next_front, own_skip, suggest_sent}
 use Rattle.mencius_server.specs.State.{ServerState, slot, with_slot, with_slot_and_front}
 
--- only ballot 0 is not above ballot 0
+-- A ballot is at most 0 exactly if it is 0.
 pub leb_zero : (n : ℕ) → leb n 0 ≡ eqb n 0
 leb_zero zero = refl
 leb_zero (suc n) = lt-leb (suc n) 0 (omega arith) ∙ sym (ne_eqb (suc n) 0 (λ e. absurd (omega arith)))
@@ -29,7 +29,7 @@ module _ (s : ServerState) (i t : ℕ) where
       sym (ap (λ (a : Bool). with_slot s i (cond a (record (slot s i) { promised = 0; vote = vote }) (slot s i))) fails
       ∙ ap (λ (xs : List SlotState). record s { slots = xs }) (set-get_or s.slots i (new_slot s.members)))
 
-  -- the front stays where the suggestion is not past it
+  -- The front stays if the suggestion is not above it.
   pub front_stays : ltb s.front i ≡ false → with_slot s i accepted ≡ after_suggest s i t
   front_stays fails = sym (ap (λ (a : Bool). with_slot_and_front s i accepted
       (cond a (first_owned s.members s.id (i + 1)) s.front)) fails)
@@ -46,7 +46,7 @@ module _ (s : ServerState) (i t : ℕ) where
   pub skip_says : (mid : ServerState) → mid ≡ with_slot s i accepted → own_skip mid i ≡ own_skip s i
   skip_says mid is = ap (λ (x : ServerState). own_skip x i) is
 
-  -- the acceptance stands behind the Skip
+  -- The acceptance comes after the Skip on the outbox.
   pub acceptance_sent : (xs : List Message) (q p : ℕ) → p ≡ s.id → leb (slot s i).promised 0 ≡ true
       → (xs ++ own_skip s i) ++ (Accepted p q i 0 ∷ []) ≡ xs ++ suggest_sent s q i
   acceptance_sent xs q p own holds =

@@ -1,4 +1,4 @@
--- A loop that marks the own instances where a ticket was suggested.
+-- A loop marks exactly the own instances where a ticket was suggested.
 use Rattle.std.proofs.Common.{◌≡◌, ℕ, ◌+◌, ◌<◌, ◌≤◌, Bool, true, false, ⊎_elim, cond, eqb, get_or, length, List, set, refl, sym, ◌∙◌, ap, arith, ◌||◌}
 use Rattle.std.proofs.lemmas.Bool.{cases_eq, cases_lt, eq-eqb}
 use Rattle.std.proofs.lemmas.List.{get_or-set_other}
@@ -17,7 +17,8 @@ or-true : (d : Bool) → (d || true) ≡ true
 or-true true = refl
 or-true false = refl
 
--- the first places have a mark where they had one or the ticket is theirs
+-- A place below i and below `end` has a mark if it had one before or the ticket was suggested there. All other marks
+-- are as before.
 pub record IsMarkedUpTo (m : Membership) (p t end : ℕ) (slots : ℕ
     → SlotState) (old new : List Bool) (i : ℕ) : Type 0 where
   pub marked : (j : ℕ) → j < i → j < end
@@ -25,7 +26,7 @@ pub record IsMarkedUpTo (m : Membership) (p t end : ℕ) (slots : ℕ
   pub rest : (j : ℕ) → i ≤ j → get_or new j false ≡ get_or old j false
   pub past : (j : ℕ) → end ≤ j → get_or new j false ≡ get_or old j false
 
--- another server's instance has no own ticket
+-- No own ticket was suggested at an instance of another server.
 other_unsaid : (m : Membership) (p t j : ℕ) (s : SlotState) → eqb (owner m j) p ≡ false
     → is_ticket t (suggested_in m p j s) ≡ false
 other_unsaid m p t j s e = rw e refl

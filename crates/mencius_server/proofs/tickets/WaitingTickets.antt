@@ -1,4 +1,4 @@
--- Which tickets wait as the slots change.
+-- The notes about waiting tickets and their marks stay right as the slots change.
 use Rattle.std.proofs.Common.{◌≡◌, ℕ, ◌<◌, ◌≤◌, Bool, true, false, ⊎_elim, ◌⊎◌, inl, inr, Option, Some, None, cond, eqb, ltb, get_or, length, List, refl, sym, ◌∙◌, ap, arith, not, ◌&&◌, ◌||◌}
 use Rattle.std.specs.Prelude.{is_none, if◌then◌else◌}
 use Rattle.std.specs.List.{list_any}
@@ -18,13 +18,13 @@ use Rattle.mencius_server.specs.State.{IsServer, ServerState, slot}
 use Rattle.mencius_base.specs.Limits.{instance_count}
 use Rattle.mencius_model.specs.Rules.{is_noop}
 
--- two tests that follow from each other
+-- Two tests that imply each other are equal.
 pub both_ways : (a d : Bool) → (a ≡ true → d ≡ true) → (d ≡ true → a ≡ true) → a ≡ d
 both_ways true d each whenever = sym (each refl)
 both_ways false true each whenever = whenever refl
 both_ways false false each whenever = refl
 
--- the same own suggestions
+-- Both servers have suggested the same own tickets.
 pub record SaysSame (s x : ServerState) : Type 0 where
   pub same : (j : ℕ) → j < instance_count → suggested_at x j ≡ suggested_at s j
 
@@ -47,7 +47,7 @@ if_none : (d : Bool) (t : ℕ) → (if d then Some t else None) ≡ None → d �
 if_none true t h = absurd (cc)
 if_none false t h = refl
 
--- a ticket waits where it waited, unless no-op was learned there since
+-- No ticket begins to wait at an instance, unless no-op was learned there since.
 waits_cases : (s x : ServerState) → SaysSame s x → (j : ℕ) → own_waiting_at s j ≡ None
     → (is_noop (slot x j).learned ≡ true → (is_noop (slot s j).learned ≡ true) ⊎ (suggested_at s j ≡ None))
     → (o : Option ℕ) → suggested_at s j ≡ o → own_waiting_of x j o ≡ None
@@ -70,13 +70,13 @@ pub waits_none : (s x : ServerState) → SaysSame s x → (j : ℕ) → j < inst
 waits_none s x said j small none since =
     ap (own_waiting_of x j) (said.same j small) ∙ waits_cases s x said j none since (suggested_at s j) refl
 
--- ---- one more suggestion
+-- ---- another suggestion
 
 pub ticket_is : (t : ℕ) (o : Option ℕ) → is_ticket t o ≡ true → o ≡ Some t
 ticket_is t None h = absurd (cc)
 ticket_is t (Some u) h = ap Some (eqb-true u t h)
 
--- from the front on nothing is suggested
+-- Each suggested ticket was suggested at an instance below the front.
 pub said_before : (s : ServerState) → IsServer s → (j t : ℕ) → suggested_at s j ≡ Some t → j < s.front
 said_before s kept j t e =
     ⊎_elim
@@ -162,7 +162,7 @@ module _ (s : ServerState) (i t : ℕ) (kept : IsServer s) (mine : owner s.membe
           (ap (λ (o : Option ℕ). ltb j i && is_ticket u o) said_here ∙ rw (parts.1, parts.0) refl))
           (or_cases _ _ h)
 
-  -- a ticket that waits later waited before
+  -- A ticket that waits after a suggestion waited before it.
   pub waits_later : (j : ℕ) → is_none (slot s i).learned ≡ true → own_waiting_at s j ≡ None → own_waiting_at later j
       ≡ None
   waits_later j blank none =
@@ -189,7 +189,7 @@ module _ (s : ServerState) (i t : ℕ) (kept : IsServer s) (mine : owner s.membe
           (longer (is_noop (slot s j).learned)
           (list_any (is_suggested_again s u j) instances) (eqb t u && ltb j i) u before)
 
-  -- the marks after it
+  -- The marks are right after a suggestion.
   pub suggested_again_later : (old new : List Bool) → length old ≤ s.front
       → ((j u : ℕ) → j < instance_count → suggested_at s j ≡ Some u
       → list_any (is_suggested_again s u j) instances ≡ get_or old j false)

@@ -1,4 +1,4 @@
-//! What a suspicion of a server would revoke, and the first phases that it starts.
+//! The instances that a suspicion of a server would revoke, and the first phases that it starts.
 ghost use Rattle.mencius_base.specs.Limits.{greatest_front, instance_count};
 ghost use Rattle.mencius_base.specs.Members.{numbers_below, instances};
 ghost use Rattle.mencius_server.specs.Instances.{instances_after_suspect, is_open_in, prepares_in, prepares_stored, reach_stored, with_first_phases, with_open_stored};
@@ -14,11 +14,12 @@ use crate::tally::Tally;
 use mencius_base::{INSTANCES, NoMemory, Outbox};
 
 impl Instances {
-    /// How far a suspicion of a server reaches from a front: to the place past twice beta from there, if its least
-    /// instance that is not learned is below beta from there, and else nowhere.
+    /// Returns the place below which a suspicion of a server covers its open instances, for a given front. The place is
+    /// `front + 2 * beta + 1` if the server's lowest unlearned instance is below `front + beta`. Otherwise, the
+    /// suspicion covers nothing and the place is 0.
     ///
-    /// It leaps over the interval of learned instances that the last call found, since what was learned stays learned.
-    /// So all calls together look at each instance once, and each of them at one more.
+    /// The search leaps over the interval of learned instances that the last call found, because learned instances stay
+    /// learned. So all calls together look at each instance once, and each call looks at one additional instance.
     pub(crate) fn reach(&mut self, suspected: u8, front: u32) -> u32
         requires suspected { suspected < self.old.members.count }
         requires near { front ≤ greatest_front }
@@ -29,7 +30,7 @@ impl Instances {
         let _within_limit = members.count(); // proof: at most 7 servers
         let beta = members.beta();
         let near = (front + beta).min(INSTANCES);
-        // A server's first instance has its number.
+        // The server's first instance has the server's number.
         let from = u32::from(suspected);
         let learned_intervals = &mut self.learned_intervals;
         let first = self.stored.open_from(learned_intervals, from, near);
@@ -40,10 +41,10 @@ impl Instances {
         }
     }
 
-    /// What a suspicion of a server would revoke that reaches so far.
+    /// Counts the instances that a suspicion of a server would revoke below `reach`.
     ///
-    /// It counts on from the reach of the last call, since whatever changed below that was counted when it changed. So
-    /// all calls together look at each instance once, and at none that a skipped interval has.
+    /// The count continues from the reach of the last call, because each change below that reach was counted when it
+    /// happened. So all calls together look at each instance once, and never at instances in skipped intervals.
     pub(crate) fn tally(&mut self, suspected: u8, reach: u32) -> Tally
         requires { suspected < self.old.members.count }
         ensures survey { IsSurvey self.old suspected reach result }
@@ -52,8 +53,7 @@ impl Instances {
         let members = self.stored.members;
         let _within_limit = members.count(); // proof: at most 7 servers
         let stop = reach.min(INSTANCES);
-        // A server's front never moves back, and then this is all that was counted, unless the suspicion reaches
-        // nowhere.
+        // The front never moves back. So this is the whole earlier tally, unless the suspicion covers nothing.
         let start = self.tallies.up_to(suspected, stop);
         if start.stop == stop {
             return start;
@@ -65,9 +65,9 @@ impl Instances {
         tally
     }
 
-    /// Starts a first phase at each instance of a server before a place where nothing was learned.
+    /// Starts a first phase at each unlearned instance of a server below `reach`.
     ///
-    /// There is room for the Prepares, and there are at most so many of these instances.
+    /// There are at most `open_count` of these instances, and `out` has room for their Prepares.
     pub(crate) fn begin_all(
         &mut self,
         id: u8,
@@ -90,7 +90,7 @@ impl Instances {
         Ok(())
     }
 
-    // Stores slots at the instances of an interval that are not learned, of which there are at most so many.
+    // Stores slots at the unlearned instances of an interval. There are at most `open_count` of these instances.
     fn store_open(&mut self, interval: &OwnedInterval, open_count: u32) -> Result<(), NoMemory>
         requires interval { IsOwnedInterval interval.now }
         requires members { interval.now.members ≡ self.old.members }
@@ -108,7 +108,7 @@ impl Instances {
         Ok(())
     }
 
-    // Starts a first phase at the instances of an interval that are not learned, at all of which slots are stored.
+    // Starts a first phase at each unlearned instance of an interval. Each of these instances has a slot.
     fn begin_open(&mut self, interval: &OwnedInterval, id: u8, out: &mut Outbox)
         requires { CanBeginOpen self.old interval.now id out.old }
         ensures after { self.new ≡ with_first_phases self.old id interval.now }
@@ -124,7 +124,7 @@ impl Instances {
             .retally_changed(server, is_last, &mut self.tallies);
     }
 
-    // A server's instances before a place.
+    // Returns the interval of a server's instances below `reach`.
     fn open_interval(&self, suspected: u8, reach: u32) -> OwnedInterval
         requires { suspected < self.now.members.count }
         ensures { IsOpenInterval self.now suspected reach result }
@@ -133,7 +133,7 @@ impl Instances {
         OwnedInterval {
             members,
             server: suspected,
-            // A server's first instance has its number.
+            // The server's first instance has the server's number.
             first: u32::from(suspected),
             stop: reach.min(INSTANCES),
         }

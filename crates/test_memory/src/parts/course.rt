@@ -1,4 +1,4 @@
-//! A course of single servers and executors through a scenario.
+//! Steps single servers and executors through a scenario.
 
 use super::Parts;
 use super::same::first_difference;
@@ -9,8 +9,7 @@ use mencius_io::{Sink, write_all};
 use std::alloc::Global;
 
 impl Parts {
-    // Takes an event, and answers the call that was refused memory, if one was. So many events of the scenario were
-    // taken before it.
+    // Takes an event after the first `taken` events of the scenario. Returns the call that was refused memory, if any.
     fn take(
         &mut self,
         alloc: Global,
@@ -32,7 +31,7 @@ impl Parts {
         Ok(refused)
     }
 
-    // Nothing, where all answers are those of new parts after so many events of the scenario.
+    // Checks that these parts are the same as new parts after the first `taken` events of the scenario.
     fn judge(&self, alloc: Global, bytes: &[u8], taken: usize) -> Result<(), Stop> {
         let before = retraced(alloc, bytes, taken)?;
         match first_difference(&before, self) {
@@ -42,7 +41,7 @@ impl Parts {
     }
 }
 
-// The call that an event stands for.
+// Returns the call that an event stands for, if there is one.
 fn call_of(event: &Event) -> Option<Call> {
     match event {
         Event::Submit { .. } => Some(Call::Submit),
@@ -54,7 +53,7 @@ fn call_of(event: &Event) -> Option<Call> {
     }
 }
 
-// The scenario that the bytes say, and parts to which nothing of it has happened yet.
+// Reads the scenario in the bytes. Returns its events, and new parts that have not taken any event.
 fn opening(alloc: Global, bytes: &[u8]) -> Result<(Parts, Events), Stop> {
     let Ok(scenario) = read_scenario(alloc, bytes) else {
         return Err(Stop::Elsewhere);
@@ -65,7 +64,7 @@ fn opening(alloc: Global, bytes: &[u8]) -> Result<(Parts, Events), Stop> {
     Ok((parts, scenario.course))
 }
 
-// New parts after so many events of a scenario.
+// Returns new parts after the first `taken` events of a scenario.
 fn retraced(alloc: Global, bytes: &[u8], taken: usize) -> Result<Parts, Stop> {
     let (mut parts, events) = opening(alloc, bytes)?;
     let mut events = events.into_iter();
@@ -79,8 +78,8 @@ fn retraced(alloc: Global, bytes: &[u8], taken: usize) -> Result<Parts, Stop> {
     Ok(parts)
 }
 
-/// Steps servers and executors through the scenario that the bytes say, and writes how far they came. Answers the call
-/// that was refused memory last, if one was.
+/// Steps servers and executors through the scenario in the bytes, and writes their progress. Returns the last call that
+/// was refused memory, if any.
 pub fn step_parts<W: Sink>(
     alloc: Global,
     bytes: &[u8],

@@ -1,12 +1,12 @@
-//! What single servers and executors answer, compared.
+//! Compares single servers and executors by the results of their calls.
 
 use super::Parts;
 use map_exec::Executor;
 use mencius_base::{Command, INSTANCES, Op, Outbox};
 use mencius_server::Server;
 
-/// The first of the answers of two parts that are not the same, by the name of the call, or `None` where they answer
-/// the same to each question.
+/// Compares the results of all calls of two parts. Returns the name of the first call whose results differ, or `None`
+/// if all results are the same.
 pub fn first_difference(first: &Parts, second: &Parts) -> Option<&'static str> {
     for (one, other) in first.servers.iter().zip(second.servers.iter()) {
         let found = of_server(one, other);
@@ -55,7 +55,7 @@ fn of_instance(first: &Server, second: &Server, inst: u32) -> Option<&'static st
     None
 }
 
-// At the keys of these commands.
+// Compares two executors. Lookups are compared at the keys of these commands.
 fn of_executor(first: &Executor, second: &Executor, commands: &[Command]) -> Option<&'static str> {
     if first.history() != second.history() {
         return Some("history");

@@ -1,4 +1,4 @@
-//! What words pick, and in which order a worker's commands come.
+//! Tests of the events that words pick, and of the order of a worker's commands.
 ghost use Rattle.std.specs.Prelude.{◌≡◌, ◌<◌};
 
 use super::fixtures::{new_cluster, set_number, set_x};
@@ -13,12 +13,12 @@ use std::panic::Expect;
 use std::process::Abort;
 use std::slice::Iter;
 
-// A pick or an event, as `Debug` writes it.
+// Returns a pick or an event, as `Debug` writes it.
 fn shown<R: Abort, T: Debug>(rt: &R, alloc: Global, value: &T) -> String {
     format!(in alloc; "{value:?}").expect(rt, "memory")
 }
 
-// Words, loss, whether a command is left, and what is picked after the schedule one_command.
+// The words, the loss, whether a command is left, and the pick after the schedule one_command.
 const PICKS: [([u32; 3], u8, bool, &'static str); 8] = [
     ([6, 0, 5], 0, true, "Is(Execute { server: 2 })"),
     ([18, 0, 4], 0, true, "Is(Retry { server: 1 })"),
@@ -60,7 +60,7 @@ fn step_cluster<R: Abort>(rt: &R, cluster: &mut Cluster, event: Event) {
     assert!(rt; cluster.step(event).is_ok());
 }
 
-// The schedule one_command, up to its first execution.
+// Takes the schedule one_command, up to its first execution.
 fn take_one_command<R: Abort>(rt: &R, alloc: Global, cluster: &mut Cluster) {
     let command = set_x(rt, alloc);
     step_cluster(rt, cluster, Event::Submit { server: 0, command });
@@ -82,7 +82,7 @@ fn words_pick_by_the_table(rt: HostRuntime) {
     }
 }
 
-// Two workers over three servers, whose lists have 2, 1 and 2 commands.
+// Returns a plan of two workers over three servers. The lists of the servers have 2, 1 and 2 commands.
 fn two_workers<R: Abort>(rt: &R, alloc: Global) -> Plan
     ensures { result.workers ≡ 2 }
 {
@@ -98,7 +98,7 @@ fn two_workers<R: Abort>(rt: &R, alloc: Global) -> Plan
     Plan::new(2, 7, 200, 4, lists).expect(rt, "a plan")
 }
 
-// Whether an event submits the command of a number at a server.
+// Whether an event submits the command with the wanted number at the wanted server.
 fn is_submission_of(event: &Event, wanted: Option<&(u8, u32)>) -> bool {
     match (event, wanted) {
         (Event::Submit { server, command }, Some((at, number))) => {
@@ -108,7 +108,8 @@ fn is_submission_of(event: &Event, wanted: Option<&(u8, u32)>) -> bool {
     }
 }
 
-// Whether an event is what was picked: the next command that is left, or this event.
+// Whether an event is the picked event. If the pick is the next command, the event must submit the first command that
+// is left.
 fn is_picked<R: Abort>(
     rt: &R,
     alloc: Global,
@@ -122,7 +123,7 @@ fn is_picked<R: Abort>(
     }
 }
 
-// Whether a worker's choice is what the words pick. The cluster is stepped by it.
+// Steps the cluster by a worker's choice. Returns whether the words pick this choice.
 fn take_turn<R: Abort>(
     rt: &R,
     alloc: Global,
@@ -138,8 +139,8 @@ fn take_turn<R: Abort>(
     is_right
 }
 
-// Whether 200 choices of a worker are what the words drawn beside them pick, and its commands come in this order of
-// servers and numbers.
+// Makes 200 choices of a worker. Returns whether words that are drawn independently pick the same events, and whether
+// the worker's commands come in this order of servers and numbers.
 fn take_turns<R: Abort>(
     rt: &R,
     alloc: Global,

@@ -10,7 +10,7 @@ use std::panic::Expect;
 use std::process::Abort;
 use std::sync::Wait;
 
-// Client 1's command of a number, which binds the key `a` to a text.
+// Returns client 1's command with this number. It binds the key `a` to a text.
 pub fn set_a<R: Abort>(rt: &R, alloc: Global, number: u32, text: String) -> Command {
     let key = Key::new(String::from_str(alloc, "a").expect(rt, "memory"));
     let text = Text::new(text);
@@ -18,13 +18,13 @@ pub fn set_a<R: Abort>(rt: &R, alloc: Global, number: u32, text: String) -> Comm
     Command::new(id, Op::Set { key, text }).expect(rt, "a command")
 }
 
-// The same, where the text is the number itself.
+// Returns client 1's command with this number. It binds the key `a` to the number in decimal digits.
 pub fn set_number<R: Abort>(rt: &R, alloc: Global, number: u32) -> Command {
     let text = format!(in alloc; "{number}").expect(rt, "memory");
     set_a(rt, alloc, number, text)
 }
 
-// Binds the key `a` to `x`.
+// Returns client 1's command with number 0. It binds the key `a` to `x`.
 pub fn set_x<R: Abort>(rt: &R, alloc: Global) -> Command {
     let text = String::from_str(alloc, "x").expect(rt, "memory");
     set_a(rt, alloc, 0, text)
@@ -42,7 +42,7 @@ pub fn new_board<R: Abort + Wait>(rt: &R, alloc: Global, servers: u8, readers: u
     Board::new(rt, alloc, cluster, readers).expect(rt, "a board")
 }
 
-// Takes an event that is accepted, and answers the number of the first message that it sends.
+// Takes an event that the board must accept. Returns the number of the first message that it sends.
 fn step_board<R: Abort>(rt: &R, board: &mut Board, event: Event) -> u32
     ensures { board.new.book ≡ board.old.book }
 {
@@ -50,7 +50,7 @@ fn step_board<R: Abort>(rt: &R, board: &mut Board, event: Event) -> u32
     effect.first
 }
 
-// The only server suggests, accepts, learns and executes a command.
+// Lets the only server suggest, accept, learn and execute a command.
 pub fn decide<R: Abort>(rt: &R, board: &mut Board, command: Command)
     ensures { board.new.book ≡ board.old.book }
 {

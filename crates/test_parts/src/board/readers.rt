@@ -1,4 +1,4 @@
-//! Readers find what was shown, told or not, also beside a thread that steps.
+//! Tests of readers. They find the list that was shown, with or without News, and also while another thread steps.
 ghost use Rattle.std.specs.Prelude.{◌≡◌};
 
 use super::fixtures::{decide, new_board, set_number, set_x};
@@ -11,8 +11,8 @@ use std::sync::Wait;
 use std::test::Fail;
 use std::thread;
 
-// The count, what is found at `a`, and the count again, all after learning. It has no `Wait`, so it
-// neither takes a lock nor waits.
+// Returns the reader's count before learning the News, the text that it then finds at `a`, and its count after
+// learning. This function has no `Wait`, so it neither takes a lock nor waits.
 fn learn_and_look(
     alloc: Global,
     reader: &mut Reader,
@@ -46,7 +46,7 @@ fn assert_lacks<R: Abort>(rt: &R, alloc: Global, reader: &mut Reader, key: &str)
     assert!(rt; found.is_none());
 }
 
-// A reader is told of the only command.
+// Checks that a reader learns of the only command, and finds its text.
 fn assert_told<R: Abort>(rt: &R, alloc: Global, reader: &mut Reader, news: News)
     requires { news.book ≡ reader.old.book }
 {
@@ -56,7 +56,7 @@ fn assert_told<R: Abort>(rt: &R, alloc: Global, reader: &mut Reader, news: News)
     assert!(rt; is_text(&found, "x"));
 }
 
-// After the events of the schedule one_server.
+// Takes the events of the schedule one_server. Checks a reader that gets the News, and a reader that does not.
 fn told_and_untold<R: Wait + Abort>(
     rt: &R,
     alloc: Global,
@@ -74,14 +74,14 @@ fn told_and_untold<R: Wait + Abort>(
     Ok(())
 }
 
-// A reader that is told nothing finds the only command.
+// Checks that a reader without News finds the only command.
 fn assert_untold<R: Abort>(rt: &R, alloc: Global, reader: &mut Reader) {
     assert_finds_x(rt, alloc, reader);
     assert_eq!(rt; reader.count(), 1);
     assert_lacks(rt, alloc, reader, "b");
 }
 
-// Two readers find it again and again.
+// Checks that two readers find `x` again and again.
 fn assert_find_x<R: Abort>(rt: &R, alloc: Global, first: &mut Reader, second: &mut Reader) {
     for _ in 0..3 {
         assert_finds_x(rt, alloc, first);
@@ -100,7 +100,7 @@ fn two_readers_find_what_is_shown(rt: HostRuntime) -> Result<(), Fail> {
     Ok(())
 }
 
-// Shows the longest history, and tells a reader of it.
+// Shows the longest history, and gives the News to a reader.
 fn tell<R: Wait>(
     rt: &R,
     alloc: Global,
@@ -115,7 +115,8 @@ fn tell<R: Wait>(
     Ok(())
 }
 
-// Two readers, each told that `a` is 1, from two calls of `show` with no step between them.
+// Returns two readers that have both learned that `a` is 1. They get their News from two calls of `show`, with no step
+// between them.
 fn two_told<R: Wait + Abort>(
     rt: &R,
     alloc: Global,
@@ -129,7 +130,7 @@ fn two_told<R: Wait + Abort>(
     Ok((first, second))
 }
 
-// Owns the board, steps and shows rising numbers, and gives the board back; and whether all of them were shown.
+// Owns the board, and decides and shows rising numbers. Returns the board, and whether all numbers were shown.
 fn show_rising<R: Wait + Abort>(rt: &R, alloc: Global, mut board: Board) -> (Board, bool) {
     let mut all_shown = true;
     for number in 2..200 {
@@ -139,12 +140,12 @@ fn show_rising<R: Wait + Abort>(rt: &R, alloc: Global, mut board: Board) -> (Boa
     (board, all_shown)
 }
 
-// Takes the board out of its place, which has it again once the numbers were shown.
+// Takes the board out of its place. The place has the board again once the numbers were shown.
 fn take_and_show<R: Wait + Abort>(rt: &R, alloc: Global, place: &mut Board) -> bool {
     replace_with(place, rt, |board, rt| show_rising(rt, alloc, board))
 }
 
-// Whether each of 1,000 lookups finds a number, none below 1 or the one before.
+// Whether each of 1,000 lookups finds a number that is at least 1 and not less than the number before it.
 fn look_up_rising(alloc: Global, mut reader: Reader) -> bool {
     let mut least = 1u32;
     for _ in 0..1000 {

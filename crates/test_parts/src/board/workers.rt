@@ -1,4 +1,4 @@
-//! Workers run side by side, and a turn waits for the lock.
+//! Tests of workers. They run side by side, and a turn waits for the lock.
 use super::fixtures::{new_board, set_number};
 use mencius_board::{Board, Gate, Plan, lend, run_workers};
 use std::alloc::Global;
@@ -8,7 +8,7 @@ use std::sync::atomic::{AtomicBool, Ordering};
 use std::sync::{Mutex, Wait};
 use std::thread;
 
-// Workers of one turn each over three servers, each of which has one command.
+// Returns a plan of workers that take one turn each, over three servers with one command each.
 fn plan_of<R: Abort>(rt: &R, alloc: Global, workers: u8, seed: u64) -> Plan {
     let mut lists = Vec::new(alloc);
     for number in 0..3 {
@@ -20,7 +20,7 @@ fn plan_of<R: Abort>(rt: &R, alloc: Global, workers: u8, seed: u64) -> Plan {
     Plan::new(workers, seed, 1, 4, lists).expect(rt, "a plan")
 }
 
-// Lets each of two workers set its own flag and look for the other's, so often at most.
+// A gate that makes each of two workers set its own flag, and then look for the other's flag at most `LOOKS` times.
 #[derive(Drop)]
 struct Meeting {
     here: [AtomicBool; 2],
@@ -29,7 +29,7 @@ struct Meeting {
 
 const LOOKS: u32 = 100_000_000;
 
-// Whether the flag is set before so many looks are over.
+// Whether the flag is set within this number of looks.
 fn is_set_within(flag: &AtomicBool, looks: u32) -> bool {
     for _ in 0..looks {
         if flag.load(Ordering::SeqCst) {
@@ -61,7 +61,7 @@ impl Meeting {
         }
     }
 
-    // Whether both came and neither missed the other.
+    // Whether both workers came and neither missed the other.
     fn are_met(&self) -> bool {
         let [zero, one] = &self.here;
         zero.load(Ordering::SeqCst)
@@ -82,7 +82,8 @@ fn two_workers_meet(rt: HostRuntime) {
     assert!(rt; gate.are_met());
 }
 
-// Lets the only worker take its turn once another thread has the lock, and tells that thread so.
+// A gate that lets the only worker take its turn once another thread has the lock. Its flag `passed` then shows that
+// thread that the worker has passed the gate.
 #[derive(Drop)]
 struct Late {
     held: AtomicBool,
@@ -96,7 +97,7 @@ impl Gate for Late {
     }
 }
 
-// Keeps the lock until the worker passes the gate, and so much longer that it comes to the lock.
+// Keeps the lock until the worker passes the gate, and then long enough for the worker to reach the lock.
 fn keep_lock<R: Wait>(rt: &R, board: &Mutex<Board>, gate: &Late) -> bool {
     lend(rt, board, |_board| {
         gate.held.store(true, Ordering::SeqCst);

@@ -1,4 +1,4 @@
-//! Suspicions that look ahead of the own front.
+//! Tests of suspicions that look ahead of the server's front.
 
 use super::{assert_happens, assert_learns, prepare, submit, suspect, take_skip};
 use crate::slot::ballot;
@@ -8,13 +8,13 @@ use std::alloc::Global;
 use std::panic::Expect;
 use std::process::Abort;
 
-// Server 1 of three that look so far ahead.
+// Creates server 1 of three servers that look ahead by `beta`.
 fn new_server_with_beta(rt: &impl Abort, alloc: Global, beta: u32) -> Server {
     let members = Members::with_beta(3, beta).expect(rt, "three");
     Server::new(alloc, members, 1).expect(rt, "memory")
 }
 
-// No-op is learned at an instance of server 0.
+// Teaches no-op at an instance of server 0.
 fn learn_noop(rt: &impl Abort, alloc: Global, server: &mut Server, inst: u32) {
     let message = Message::Learn {
         from: 2,
@@ -25,7 +25,7 @@ fn learn_noop(rt: &impl Abort, alloc: Global, server: &mut Server, inst: u32) {
     assert_learns(rt, server, &message, &mut out, 1);
 }
 
-// A suspicion of server 0 sends Prepares at these instances alone, and where there are none it is refused.
+// Checks that a suspicion of server 0 sends Prepares at exactly these instances, or is refused if the list is empty.
 fn assert_reaches(rt: &impl Abort, alloc: Global, server: &mut Server, insts: &[u32]) {
     let answer = if insts.is_empty() {
         Err(Refusal::NothingToRevoke)
@@ -44,8 +44,9 @@ fn assert_reaches(rt: &impl Abort, alloc: Global, server: &mut Server, insts: &[
     assert!(rt; sent.next().is_none());
 }
 
-// What server 1 learned of server 0, whose instances are 0, 3, 6 and so on, and the instances that it reaches from its
-// front, 1. The least that it did not learn is to be below 1 + beta, and it reaches 1 + 2 * beta.
+// Each row has a beta, the instances of server 0 that server 1 learned, and the instances that its suspicion covers.
+// Server 0 owns 0, 3, 6 and so on, and the front of server 1 is 1. The suspicion covers instances only if the lowest
+// one that server 1 did not learn is below 1 + beta. Its reach is then 1 + 2 * beta.
 const REACHES: [(u32, &[u32], &[u32]); 8] = [
     (0, &[], &[0]),
     (1, &[], &[0, 3]),
@@ -64,12 +65,12 @@ fn suspicions_look_ahead(rt: HostRuntime) {
         let mut one = new_server_with_beta(&rt, alloc, beta);
         move_on(&rt, alloc, &mut one, &[], learned);
         assert_reaches(&rt, alloc, &mut one, insts);
-        // What it keeps of the first suspicion changes nothing.
+        // The slots that it keeps from the first suspicion do not change the second one.
         assert_reaches(&rt, alloc, &mut one, insts);
     }
 }
 
-// Server 1 moves its front by so many own instances, and learns what server 0 has no part in any more.
+// Submits tickets at server 1, which moves its front. Then teaches it no-op at instances of server 0.
 fn move_on(rt: &impl Abort, alloc: Global, server: &mut Server, tickets: &[u32], learned: &[u32]) {
     let mut out = Outbox::new(alloc, 100);
     for ticket in tickets {
@@ -80,7 +81,8 @@ fn move_on(rt: &impl Abort, alloc: Global, server: &mut Server, tickets: &[u32],
     }
 }
 
-// A front moves on by these own instances and by what is learned; the front then, and where a suspicion reaches then.
+// The submitted tickets, the learned instances of server 0, the front after both, and the instances that a suspicion
+// then covers.
 type Move = (&'static [u32], &'static [u32], u32, &'static [u32]);
 
 const MOVES: [Move; 5] = [
@@ -91,7 +93,7 @@ const MOVES: [Move; 5] = [
     (&[2], &[12], 10, &[9]),
 ];
 
-// Where a suspicion may begin, and how far it reaches, moves with the own front.
+// The bound for the first instance of a suspicion and the reach of the suspicion both move with the server's own front.
 #[test]
 fn suspicions_look_ahead_of_the_front(rt: HostRuntime) {
     let alloc = rt.alloc();
@@ -103,7 +105,7 @@ fn suspicions_look_ahead_of_the_front(rt: HostRuntime) {
     }
 }
 
-// A suspicion of server 0 is answered so where so many messages have room.
+// Checks the result of a suspicion of server 0, with room for `room` messages. Returns the outbox.
 fn assert_suspects(
     rt: &impl Abort,
     alloc: Global,
@@ -116,7 +118,7 @@ fn assert_suspects(
     out
 }
 
-// The last instance is 4,095, however far a server looks, and all are sent or none.
+// A suspicion ends at the last instance, 4,095, however far a server looks ahead. It sends all messages or none.
 #[test]
 fn suspicions_end_at_the_last_instance(rt: HostRuntime) {
     let alloc = rt.alloc();

@@ -1,4 +1,4 @@
-//! Worked schedules, as tables of events and lists of the messages sent.
+//! Tests of worked schedules, as tables of events and lists of the messages sent.
 
 use super::{accepted, assert_happens, assert_sent, new_server, prepare, server_of, skip, suggest};
 use crate::slot::ballot;
@@ -9,8 +9,8 @@ use std::alloc::Global;
 use std::panic::Expect;
 use std::process::Abort;
 
-// An event as a scenario has it, where a delivery names its message by its number in order of sending; how many
-// messages are sent then, and how many instances are learned.
+// An event as a scenario writes it, the number of messages that it sends, and the number of instances that it teaches.
+// A delivery names its message by its number in the order of sending.
 type EventRow = (&'static str, u32, u32);
 
 fn promise(from: u8, to: u8, ballot: Ballot, vote: Option<Vote>) -> Message {
@@ -36,7 +36,7 @@ fn learn(from: u8, inst: u32, value: Value) -> Message {
     Message::Learn { from, inst, value }
 }
 
-// An event by tickets: a schedule has at most one command, whose ticket is 0.
+// Returns an event as an entry with a ticket. A schedule has at most one command here, so the ticket is 0.
 fn entry_of(event: &Event) -> Entry {
     match event {
         Event::Submit { server, .. } => Entry::Submit {
@@ -68,7 +68,7 @@ fn new_servers(rt: &impl Abort, alloc: Global) -> Vec<Server> {
     servers
 }
 
-// Three servers, through the rows; all that was sent, by number, and their fronts at the end.
+// Takes three servers through the rows. Checks all messages that were sent, by number, and the fronts at the end.
 fn follow(
     rt: &impl Abort,
     alloc: Global,
@@ -87,7 +87,7 @@ fn follow(
     }
 }
 
-// What a row says happens, and sends and teaches as much as it says.
+// Takes the event of a row. Checks the numbers of messages that it sends and of instances that it teaches.
 fn take_row(
     rt: &impl Abort,
     alloc: Global,
@@ -194,7 +194,7 @@ const LATE_SUGGESTION: [EventRow; 21] = [
     ("deliver 11 0", 1, 1),
 ];
 
-// late_suggestion_where_noop_is_decided, and from its end late_suggestion_decided_further_on
+// The schedule late_suggestion_where_noop_is_decided, and after it late_suggestion_decided_further_on.
 #[test]
 fn late_suggestion(rt: HostRuntime) {
     let (zero, four) = (Ballot::OWNER, ballot(&rt, 4));

@@ -8,7 +8,7 @@ use Rattle.mencius_model.specs.Laws.{HearsReport}
 use Rattle.mencius_model.proofs.trace.Reports.{Stands, Stands-heard, higher_vote-heard}
 use Rattle.coord_paxos.proofs.laws.reports_greatest.Goals as goal
 
--- the vote reported stands against each that was heard
+-- no vote that was heard has a greater ballot than the reported vote
 stands : (w : Trace) (p i b : ℕ) (z : Vote) → HearsReport w p i b z → Stands (reported_vote w p i b) (Some z)
 stands w p i b z hears =
     let reports : vote_reported i b (Promise hears.0 hears.1 i b (Some z)) ≡ Some z =

@@ -2,7 +2,7 @@ use Rattle.std.proofs.Common.{rules, ◌≡◌, Ok, string_bytes, append_assoc}
 use Rattle.mencius_app.specs.Drawing.{too_large_words}
 use Rattle.mencius_app.proofs.pictures.words_of_levels.Goals as goal
 
--- the text of the format is that of the clause but for how its parts are joined
+-- the formatted text is the text of the clause, but its parts are grouped differently
 pub returns : goal.returns
 returns c =
     let made : c.format.result ≡ Ok c.in_ok-words.words = search rules in

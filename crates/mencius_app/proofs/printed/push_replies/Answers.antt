@@ -10,7 +10,7 @@ use Rattle.mencius_cluster.specs.State.{trace_of}
 use Rattle.mencius_trace.specs.Words.{answer_line}
 use Rattle.mencius_app.proofs.printed.push_replies.Goals as goal
 
--- the text of the items before a place, and then the text of the item there
+-- the text of the items up to a place is the text of the items before it, followed by the text of the item there
 one_more : {X : Type 0} (f : X → List ℕ) (n : ℕ) (xs : List X)
     → flat_map f (take (suc n) xs) ≡ flat_map f (take n xs) ++ option_map_or f (slice_get xs n) []
 one_more f zero [] = refl

@@ -7,7 +7,7 @@ use Rattle.mencius_command_line.specs.CommandLine.{TaskState, task_by_name, task
 use Rattle.mencius_command_line.proofs.CommandLines.{err_first, err_of, kinds_next, program_simple}
 use Rattle.mencius_command_line.proofs.line.read_command_line.Goals as goal
 
--- what words ask for that were joined
+-- the task that words request after they were joined
 abbrev asked_there : List Text → TaskState
 asked_there words = task_by_name (subcommand_of program words)
 

@@ -4,7 +4,7 @@ use Rattle.mencius_input.specs.FieldsOf.{field_name, list_field, whole_fields}
 use Rattle.mencius_input.specs.Explanations.{further_names, kind_name, unknown_words}
 use Rattle.mencius_input.proofs.explanation.push_unknown.Goals as goal
 
--- six texts, each put behind what there is
+-- six texts that are appended one after another are appended together
 one_text : (w u v x y z all a k b f e l : List ℕ) → u ≡ w ++ a → v ≡ u ++ k → x ≡ v ++ b → y ≡ x ++ f → z ≡ y ++ e
     → all ≡ z ++ l → all ≡ w ++ (a ++ k ++ b ++ f ++ e ++ l)
 one_text w u v x y z all a k b f e l h i j m n o = rw (o, n, m, j, i, h) (simp append_assoc refl)

@@ -15,7 +15,7 @@ returns-in_err-n-clause-taken g c = (
   Consumes-kept _ _ _ c.reads.bytes.items c.reads.invariant.taken c.in_err-n.ensures.bytes,
 )
 
--- nothing more came
+-- the last read returned no byte
 pub returns-then-n-eq0-clause-taken : goal.returns-then-n-eq0-clause-taken
 returns-then-n-eq0-clause-taken g c =
     let last = take c.in_ok-n.n c.read_some.new.buf in (
@@ -24,7 +24,7 @@ returns-then-n-eq0-clause-taken g c =
       Consumes-trans _ _ _ c.reads.bytes.items last c.reads.invariant.taken c.in_ok-n.ensures.bytes.0,
     )
 
--- the growth that failed came after the read that found the bytes
+-- the allocation failed after the read that found the bytes
 pub returns-in_err-extend_from_slice-clause-taken : goal.returns-in_err-extend_from_slice-clause-taken
 returns-in_err-extend_from_slice-clause-taken g c =
     let found = take c.in_ok-n.n c.read_some.new.buf in

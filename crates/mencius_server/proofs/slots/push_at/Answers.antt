@@ -49,7 +49,7 @@ returns-then-is_none-clause-more c =
     c.is_none.result c.requires.places.placed.few within c.index.ensures c.is_none.ensures c.if-is_none.true in
     c.push_reserved.ensures.len ∙ ap (λ (d : Bool). vec_len c.args.slots.now + cond d 1 0) (sym (ap is_none gone))
 
--- a slot is stored there
+-- In this branch, a slot is stored at the instance.
 found : (c : goal.Else-is_none)
     → is_none (stored_at (stored_slots c.args.places.now.items c.args.slots.now.items) c.args.inst) ≡ false
 found c =

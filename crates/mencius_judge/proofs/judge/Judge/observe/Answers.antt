@@ -8,7 +8,7 @@ use Rattle.mencius_judge.specs.Promises.{KeepsAll}
 use Rattle.mencius_judge.proofs.promises.Kept.{judged_kept}
 use Rattle.mencius_judge.proofs.judge.Judge.observe.Goals as goal
 
--- a verdict says whether the promises are kept
+-- a right verdict is None exactly if the log with the observation keeps all promises
 kept_by : {E : Type 0} (o : Observation) (r : Result (Option Violation) E) (old new : Judge)
     → IfOk r (λ x. (w : Log) → HasSeenLog old w → IsJudged w o x new)
     → IfOk r (λ x. (w : Log) → HasSeenLog old w → IsNone x ↔ KeepsAll (o ∷ w))

@@ -27,12 +27,12 @@ change-requires-clause-said c =
     c.store.new.self c.args.inst c.at-slot.result.now c.self.view_is c.in_ok-store.ensures.ok c.requires.small
     c.at-slot.ensures.value) c.requires.said
 
--- what was learned stays
+-- A learned slot stays learned after a change.
 stays : (s x : SlotState) (ch : Change) → x ≡ slot_after_change s ch → is_none s.learned ≡ false
     → is_none x.learned ≡ false
 stays s x ch made h = rw made (change_learned s ch h)
 
--- what others see
+-- After the change, callers see the earlier instances with the changed slot.
 shows : (m : Membership) (slots : List (Option SlotState)) (rs : List (List Interval)) (i : ℕ)
     (old stored : InstancesState) (s x : SlotState) (ch : Change)
     → stored_at slots i ≡ Some s → instances_in m slots rs ≡ stored → stored ≡ with_stored old i
@@ -57,7 +57,7 @@ change-requires-clause-counted c = λ less.
     tally refl
     (c.self.invariant.counted (owner m c.args.inst)) less)
 
--- what is known, and what was counted of it, with the slot that is written
+-- The fields of the instances still fit together after the slot is written and its owner's tally is updated.
 kept : (m : Membership) (slots : List (Option SlotState)) (rs : List (List Interval)) (low next i : ℕ)
     (tallies more : List Tally) (ends : List ℕ) (s x : SlotState) → stored_at slots i ≡ Some s
     → (is_none s.learned ≡ false → is_none x.learned ≡ false)

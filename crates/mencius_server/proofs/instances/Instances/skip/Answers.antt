@@ -18,25 +18,26 @@ use Rattle.mencius_server.proofs.intervals.NewIntervals.{old_news}
 use Rattle.mencius_base.specs.Limits.{instance_count}
 use Rattle.mencius_server.proofs.instances.Instances.skip.Goals as goal
 
--- the interval that is skipped
+-- The interval that a Skip gives up.
 abbrev skip_interval : Membership → ℕ → ℕ → ℕ → OwnedInterval
 skip_interval m q x y = record { members = m; server = q; first = x; stop = y }
 
--- the skipper has intervals
+-- The list of skipped intervals has an entry for the skipper.
 has_intervals : (m : Membership) (slots : List (Option SlotState)) (rs : List (List Interval)) (now : InstancesState)
     (q : ℕ)
     → instances_in m slots rs ≡ now → IsSorted m rs → q < now.members.count → q < length rs
 has_intervals m slots rs now q shown sorted member =
     omega (arith, member, ap (λ (s : InstancesState). s.members.count) shown, sorted.count)
 
--- its intervals have the interval besides
+-- After the call, the intervals of the skipper cover their earlier instances and the added interval.
 then_covered : (m : Membership) (q x y : ℕ) (old new : List Interval) (rs : List (List Interval)) → old ≡ get_or rs q []
     → ((j : ℕ) → j < instance_count → owner m j ≡ q → is_in_any new j ≡ (is_in_any old j || is_between x y j))
     → (j : ℕ) → j < instance_count → owner m j ≡ q
     → is_in_any new j ≡ (is_in_any (get_or rs q []) j || is_between x y j)
 then_covered m q x y old new rs same h j small own = h j small own ∙ ap (λ xs. is_in_any xs j || is_between x y j) same
 
--- the interval begins and ends at the first instances of the skipper from its places on
+-- The interval begins and ends at the first instances of the skipper at or above the two ends of the Skip. An end above
+-- 4,096 counts as 4,096.
 abbrev alignment : (m : Membership) (q first stop x y n : ℕ) → n ≡ min stop instance_count
     → first ≤ x → ((i : ℕ) → first ≤ i → owner m i ≡ q → x ≤ i)
     → n ≤ y → ((i : ℕ) → n ≤ i → owner m i ≡ q → y ≤ i) → IsAligned q first stop (skip_interval m q x y)
@@ -167,7 +168,7 @@ learned_from-self-inside-requires-clause-sorted c =
     c.in_ok-learned.ensures.slots c.skip.ensures.skipped
     c.self.invariant.sound.sorted
 
--- an interval that was skipped before
+-- If the interval was skipped before, the call returns at once and nothing changes.
 pub returns-then-past-stop-clause-after : goal.returns-then-past-stop-clause-after
 returns-then-past-stop-clause-after c =
     let m = c.self.inside.stored.members in

@@ -31,11 +31,11 @@ suggest-requires-clause-own c =
     (stored_slot _ _ _ _ _ c.args.inst _ c.self.view_is c.in_ok-store.ensures.ok c.requires.small c.at.ensures.value)
     c.requires.own
 
--- a slot with a proposal counts as before
+-- A slot counts the same with a proposal as without it.
 alike : (m : Membership) (s x : SlotState) (t : ℕ) → x ≡ record s { proposal = Some (Ticket t) } → IsAlike m s x
 alike m s x t e = rw e (record { open_count = refl; spent_count = refl })
 
--- what is known, and what was counted of it, with the slot that is written
+-- The fields of the instances still fit together after a proposal is written to a slot.
 kept : (m : Membership) (slots : List (Option SlotState)) (rs : List (List Interval)) (low i t : ℕ)
     (tallies : List Tally)
     (ends : List ℕ) (x y : SlotState) → i < instance_count → stored_at slots i ≡ Some x → y ≡ record x {

@@ -10,7 +10,7 @@ use Rattle.mencius_server.proofs.tallies.OneTally.{alike_same, tally_few, tally_
 use Rattle.mencius_server.proofs.tallies.InstanceTallies.{counts_put, tally_survey}
 use Rattle.mencius_server.proofs.instances.Instances.tally.Goals as goal
 
--- the count goes on from what was counted, or from nothing
+-- The count starts from the last tally or from the tally of no instances, and both are right.
 started : (m : Membership) (f : ℕ → SlotState) (q : ℕ) (tallies : List Tally) (start : Tally)
     → ((q : ℕ) → IsTally m f q (tally_of tallies q)) → (start ≡ tally_of tallies q) ⊎ (start ≡ no_tally)
     → IsTally m f q start
@@ -20,7 +20,7 @@ started m f q tallies start counted either =
     (λ (none : start ≡ no_tally). tally_none m f q start none)
     either
 
--- where all between is known, the count from there on makes it longer
+-- If all instances between the end of a tally and the start of a count are learned, their sum is a tally.
 counted_on : (m : Membership) (slots : List (Option SlotState)) (rs : List (List Interval)) (low q first : ℕ)
     (tallies : List Tally) (ends : List ℕ) (start further : Tally) → IsInstancesInside m slots rs low tallies ends
     → (start ≡ tally_of tallies q) ⊎ (start ≡ no_tally)

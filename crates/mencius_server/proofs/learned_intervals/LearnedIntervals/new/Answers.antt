@@ -4,7 +4,7 @@ use Rattle.std.proofs.lemmas.List.{get_or-replicate, get_or_past, length-replica
 use Rattle.mencius_base.specs.Limits.{instance_count}
 use Rattle.mencius_server.proofs.learned_intervals.LearnedIntervals.new.Goals as goal
 
--- wherever zeros are looked at, and past them
+-- A list of zeros gives 0 at every place, also past its end.
 zeros : (n i : ℕ) → ◌≡◌ {A = ℕ} (get_or (replicate n 0) i 0) 0
 zeros n i = ⊎_elim
     (λ (less : i < n). get_or-replicate n i 0 0 less)

@@ -114,7 +114,7 @@ loop-end-preserved c =
           (cases_lt j i);
     }
 
--- no first phase was started
+-- If the step returns `None`, it started no first phase.
 no_phase : (o : Option Bool) (d : Bool) → is_some o ≡ d → o ≡ None → d ≡ false
 no_phase o d same none = sym same ∙ ap is_some none
 

@@ -9,7 +9,7 @@ use Rattle.mencius_server.specs.declared.tally.Tally.{Tally}
 use Rattle.mencius_server.proofs.tallies.SkipTallies.{less_fits, less_none, less_some}
 use Rattle.mencius_server.proofs.stored_instances.StoredInstances.tally_after_skip.Goals as goal
 
--- the interval has the same members
+-- A tally is still right for an equal membership.
 by_same : (m n : Membership) (slots : List (Option SlotState)) (rs : List (List Interval)) (q first : ℕ) (d : Tally)
     → n ≡ m → IsTallyFrom m (instance_slot_in m slots rs) q first d → IsTallyFrom n (instance_slot_in n slots rs) q
     first d
