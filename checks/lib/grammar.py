@@ -9,7 +9,7 @@ from typing import NamedTuple
 
 from shared import fail, start
 
-# So great is no number of a scenario.
+# So great is not a number of a scenario.
 TOO_GREAT = 10 ** 30
 # So long is no name.
 TOO_LONG = 10_000
@@ -258,7 +258,7 @@ def kind_of(place):
     great = place.find(".* is greater than ([0-9]+)", str(TOO_GREAT))
     if great:
         return with_ends_tried(place, Kind("number", 0, int(great.group(1))), str)
-    if place.find("the command ID is no CLIENT.NUMBER: .*", str(TOO_GREAT)):
+    if place.find("the command ID is not CLIENT.NUMBER: .*", str(TOO_GREAT)):
         great = place.find("the client of the command ID is greater than ([0-9]+)", f"{TOO_GREAT}.0")
         kind = with_ends_tried(place, Kind("ID", 0, int(great.group(1))), "{}.0".format)
         return with_ends_tried(place, kind, "0.{}".format)

@@ -41,8 +41,8 @@ draw_task options = record {
 -- the words for a picture that would have this number of levels, which is too great
 abbrev pub too_large_words : ℕ → List ℕ
 too_large_words levels =
-    codes "the picture takes " ++ decimal levels
-    ++ codes " levels and has at most " ++ decimal most_levels
+    codes "the picture has " ++ decimal levels
+    ++ codes " levels and may have at most " ++ decimal most_levels
     ++ codes ": ask for fewer events by `--from` and `--to`"
 
 -- the words explain a fault as they do for a trace, or they name the number of levels of a picture that is too large

@@ -85,7 +85,7 @@ fn words_of_levels(alloc: Global, levels: usize) -> Result<String, AllocError>
     ensures { IfOk result (λ words. string_bytes words ≡ too_large_words levels) }
 {
     let words = format!(in alloc;
-        "the picture takes {levels} levels and has at most {MOST_LEVELS}: ask for fewer events by `--from` and `--to`"
+        "the picture has {levels} levels and may have at most {MOST_LEVELS}: ask for fewer events by `--from` and `--to`"
     )?;
     Ok(words)
 }

@@ -27,7 +27,7 @@ range_words least greatest =
 -- the words about a value that is not within a shape
 abbrev pub shape_words : Shape → List ℕ
 shape_words (shape.Whole least greatest default) = range_words least greatest
-shape_words shape.List = codes "no list"
+shape_words shape.List = codes "not a list"
 
 -- the words about a value that is out of the limits of a field
 unfoldable pub limit_words : Field → List ℕ
@@ -35,7 +35,7 @@ limit_words field = shape_words (row field).shape
 
 -- the words about a field that should be a whole number and has this fault
 abbrev pub number_words : IoFault → Field → List ℕ
-number_words BadShape field = codes "no whole number"
+number_words BadShape field = codes "not a whole number"
 number_words fault field = limit_words field
 
 -- the words about a field, which end in `said`
@@ -64,21 +64,21 @@ unknown_words kind =
 -- the words explain an item. They say that it is not a string, or they are its text in quotes, a colon and further
 -- words
 abbrev pub ExplainsItem : Option (List ℕ) → List ℕ → Type 0
-ExplainsItem None words = words ≡ codes "is no string"
+ExplainsItem None words = words ≡ codes "is not a string"
 ExplainsItem (Some text) words = (said : List ℕ) × (words ≡ shown_text text ++ 58 ∷ 32 ∷ said)
 
 -- the words explain the fault at a place in a scenario of the kind
 abbrev pub ExplainsPlace : Kind → IoFault → PlaceState → List ℕ → Type 0
-ExplainsPlace kind fault place.no_object words = words ≡ codes "the text is no JSON object"
+ExplainsPlace kind fault place.no_object words = words ≡ codes "the text is not a JSON object"
 ExplainsPlace kind fault (place.unknown_field name) words = words ≡ shown_text name ++ unknown_words kind
 ExplainsPlace kind fault (place.missing_field field) words = words ≡ field_words field (codes "missing")
 ExplainsPlace kind fault (place.bad_number field) words = words ≡ field_words field (number_words fault field)
 ExplainsPlace kind fault (place.great_number field) words = words ≡ field_words field (limit_words field)
-ExplainsPlace kind fault (place.no_list field) words = words ≡ field_words field (codes "no list")
+ExplainsPlace kind fault (place.no_list field) words = words ≡ field_words field (codes "not a list")
 ExplainsPlace kind fault (place.event_item index version text) words =
     (said : List ℕ) × (words ≡ codes "event " ++ decimal index ++ 32 ∷ said) × ExplainsItem text said
 ExplainsPlace kind fault (place.no_sublist n) words =
-    words ≡ codes "item " ++ decimal n ++ codes " of the field \"commands\" is no list"
+    words ≡ codes "item " ++ decimal n ++ codes " of the field \"commands\" is not a list"
 ExplainsPlace kind fault (place.command_item n index version text) words =
     (said : List ℕ) × (words ≡ codes "command " ++ decimal index ++ codes " of list " ++ decimal n ++ 32 ∷ said)
     × ExplainsItem text said
@@ -87,14 +87,14 @@ ExplainsPlace kind fault (place.list_count count servers) words =
 
 -- the words if a sign occurs too often in the text for a search for the place
 abbrev pub crowd_words : Crowd → List ℕ
-crowd_words Braces = codes "more than 65,536 { stand in the text, where a scenario has one"
-crowd_words Brackets = codes "more than 65,536 [ stand in the text, where a scenario has at most eight"
-crowd_words Separators = codes "more than 1,700,000 commas and colons stand in the text, which has no room for so many events"
+crowd_words Braces = codes "more than 65,536 { are in the text, where a scenario has one"
+crowd_words Brackets = codes "more than 65,536 [ are in the text, where a scenario has at most eight"
+crowd_words Separators = codes "more than 1,700,000 commas and colons are in the text, which has no room for so many events"
 
 -- the words if no place with the fault was found
 abbrev pub unplaced_words : IoFault → List ℕ
 unplaced_words BadLimit = codes "a number, a length or a count is past its limit"
-unplaced_words fault = codes "the text is no scenario"
+unplaced_words fault = codes "the text is not a scenario"
 
 -- the words name a sign that occurs too often for a search. Without such a sign, they explain the first place with the
 -- fault, or say that no place was found

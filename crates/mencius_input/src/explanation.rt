@@ -37,7 +37,7 @@ fn limit_words(alloc: Global, field: Field) -> Result<String, NoMemory>
             greatest,
             ..
         } => range_words(alloc, least, greatest),
-        Shape::List => Ok(String::from_str(alloc, "no list")?),
+        Shape::List => Ok(String::from_str(alloc, "not a list")?),
     }
 }
 
@@ -46,7 +46,7 @@ fn number_words(alloc: Global, field: Field, fault: IoFault) -> Result<String, N
     ensures { IfOk result (λ s. string_bytes s ≡ number_words fault field) }
 {
     match fault {
-        IoFault::BadShape => Ok(String::from_str(alloc, "no whole number")?),
+        IoFault::BadShape => Ok(String::from_str(alloc, "not a whole number")?),
         _ => limit_words(alloc, field),
     }
 }
@@ -117,7 +117,7 @@ fn of_item(
             let said = wrong_item(alloc, kind, version, text.as_str(), fault)?;
             of_text(alloc, text.as_str(), said.as_str())
         }
-        None => Ok(String::from_str(alloc, "is no string")?),
+        None => Ok(String::from_str(alloc, "is not a string")?),
     }
 }
 
@@ -140,9 +140,9 @@ fn of_command(alloc: Global, list: usize, index: usize, said: &str) -> Result<St
 // Returns the words about an item of the commands that is not a list.
 fn of_list(alloc: Global, list: usize) -> Result<String, NoMemory>
     ensures { IfOk result (λ s. string_bytes s
-        ≡ codes "item " ++ decimal list ++ codes " of the field \"commands\" is no list") }
+        ≡ codes "item " ++ decimal list ++ codes " of the field \"commands\" is not a list") }
 {
-    Ok(format!(in alloc; "item {list} of the field \"commands\" is no list")?)
+    Ok(format!(in alloc; "item {list} of the field \"commands\" is not a list")?)
 }
 
 // Returns the number of lists and the number of servers, in words.
@@ -167,7 +167,7 @@ fn wrong_place(alloc: Global, kind: Kind, place: &Place, fault: IoFault) -> Resu
     ensures { IfOk result (λ s. ExplainsPlace kind fault (place_state place.now) (string_bytes s)) }
 {
     match place {
-        Place::NoObject => Ok(String::from_str(alloc, "the text is no JSON object")?),
+        Place::NoObject => Ok(String::from_str(alloc, "the text is not a JSON object")?),
         Place::Unknown { name } => of_unknown(alloc, kind, name.as_str()),
         Place::Missing { field } => of_field(alloc, *field, "missing"),
         Place::Number { field } => {
@@ -178,7 +178,7 @@ fn wrong_place(alloc: Global, kind: Kind, place: &Place, fault: IoFault) -> Resu
             let said = limit_words(alloc, *field)?;
             of_field(alloc, *field, said.as_str())
         }
-        Place::NoList { field } => of_field(alloc, *field, "no list"),
+        Place::NoList { field } => of_field(alloc, *field, "not a list"),
         Place::Event {
             index,
             version,
@@ -206,12 +206,12 @@ fn crowd_words(crowd: Crowd) -> &'static str
     ensures { result.now ≡ crowd_words crowd }
 {
     match crowd {
-        Crowd::Braces => "more than 65,536 { stand in the text, where a scenario has one",
+        Crowd::Braces => "more than 65,536 { are in the text, where a scenario has one",
         Crowd::Brackets => {
-            "more than 65,536 [ stand in the text, where a scenario has at most eight"
+            "more than 65,536 [ are in the text, where a scenario has at most eight"
         }
         Crowd::Separators => {
-            "more than 1,700,000 commas and colons stand in the text, which has no room for so many events"
+            "more than 1,700,000 commas and colons are in the text, which has no room for so many events"
         }
     }
 }
@@ -222,7 +222,7 @@ fn unplaced(fault: IoFault) -> &'static str
 {
     match fault {
         IoFault::BadLimit => "a number, a length or a count is past its limit",
-        _ => "the text is no scenario",
+        _ => "the text is not a scenario",
     }
 }
 

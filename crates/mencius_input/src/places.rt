@@ -82,7 +82,7 @@ fn said_number(scenario: &Value, field: Field) -> Option<u64>
 }
 
 // Returns the version that events and commands are judged by. It is the version of the scenario, or the newest version
-// if the scenario has no whole number as its version.
+// if the scenario has not a whole number as its version.
 fn version_in(scenario: &Value) -> u64
     ensures { result ≡ version_in (view scenario.now) }
 {

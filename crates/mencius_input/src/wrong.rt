@@ -59,7 +59,7 @@ fn wrong_number(
         return Ok(format!(in alloc; "{name} has a leading zero")?);
     }
     let word = shown(alloc, word)?;
-    Ok(format!(in alloc; "{name} is no number: {word}")?)
+    Ok(format!(in alloc; "{name} is not a number: {word}")?)
 }
 
 fn wrong_u8(
@@ -96,7 +96,7 @@ fn wrong_id(alloc: Global, word: &str, fault: IoFault) -> Result<Option<String>,
     }
     let Ok((client, number)) = cut_at_dot(word) else {
         let word = shown(alloc, word)?;
-        return Ok(Some(format!(in alloc; "the command ID is no CLIENT.NUMBER: {word}")?));
+        return Ok(Some(format!(in alloc; "the command ID is not CLIENT.NUMBER: {word}")?));
     };
     if let Some(words) = wrong_u32(alloc, "the client of the command ID", client, fault)? {
         return Ok(Some(words));

@@ -11,7 +11,7 @@ use thiserror::Error;
 pub enum IoFault {
     #[error("the scenario is not JSON")]
     NotJson,
-    #[error("the scenario has another shape than a scenario")]
+    #[error("the scenario does not have the shape of a scenario")]
     BadShape,
     #[error("a number, a length or the whole scenario is past its limit")]
     BadLimit,

@@ -22,7 +22,7 @@ const NO_VALUE: &str = "a value is missing before this";
 
 const NO_NAME: &str = "a name in double quotes has to stand here";
 
-const GOES_ON: &str = "the text goes on behind its value";
+const GOES_ON: &str = "the text goes on after its value";
 
 // Returns the offset of the last line of `front`. `feeds` is the number of line feeds in `front`.
 fn last_line_start(front: &[u8], feeds: usize) -> usize
@@ -195,11 +195,11 @@ fn wrong_string(inside: &[u8]) -> &'static str {
 fn wrong_beginning(rest: &[u8], is_name: bool) -> &'static str {
     match rest {
         [b'"', inside @ ..] => wrong_string(inside),
-        [b'A'..=b'Z' | b'a'..=b'z' | b'_', ..] => "a word in no quotes",
+        [b'A'..=b'Z' | b'a'..=b'z' | b'_', ..] => "a word without quotes",
         _ if is_name => NO_NAME,
         [b',' | b':' | b']' | b'}', ..] => NO_VALUE,
-        [b'0'..=b'9' | b'-' | b'+' | b'.', ..] => "no number as JSON writes it",
-        _ => "a value has to stand here",
+        [b'0'..=b'9' | b'-' | b'+' | b'.', ..] => "not a number as JSON writes it",
+        _ => "a value must be here",
     }
 }
 
@@ -219,7 +219,7 @@ fn wrong_next(last: u8, rest: &[u8]) -> &'static str {
 fn wrong_behind(front: &[u8], rest: &[u8], is_whole: bool, is_in_object: bool) -> &'static str {
     match (last_solid(front), rest) {
         (_, [b'/', b'/' | b'*', ..]) => "a comment, which JSON does not have",
-        (_, [b'\'', ..]) => "a single quote, where a string of JSON stands in double quotes",
+        (_, [b'\'', ..]) => "a single quote, but a string of JSON has double quotes",
         (Some(b','), [b']' | b'}', ..]) => "a comma stands before the closing bracket",
         (Some(b'{' | b','), _) if is_in_object => wrong_beginning(rest, true),
         (None | Some(b'[' | b',' | b':'), _) => wrong_beginning(rest, false),

@@ -38,7 +38,7 @@ fn wrong_text(text: &str, fault: IoFault) -> &'static str {
     let mut left = Some(text);
     let first = next_word(&mut left).unwrap_or("");
     let Some(words) = words_behind(first) else {
-        return "it begins with none of submit, execute, reply, lookup and told";
+        return "it does not begin with submit, execute, reply, lookup or told";
     };
     if let Some(wrong) = wrong_words(words, &mut left, fault) {
         return wrong;
@@ -149,9 +149,9 @@ fn answer_fault(text: &str) -> Option<IoFault> {
 
 fn rule_of(word: Word) -> &'static str {
     match word {
-        Word::Server => "the server is no number from 0 to 255",
-        Word::Reader => "the reader is no number from 0 to 4294967295",
-        Word::Id => "the command ID is no CLIENT.NUMBER, each a number from 0 to 4294967295",
+        Word::Server => "the server is not a number from 0 to 255",
+        Word::Reader => "the reader is not a number from 0 to 4294967295",
+        Word::Id => "the command ID is not CLIENT.NUMBER, each a number from 0 to 4294967295",
         Word::Key => "the key is not 1 to 64 ASCII letters, digits, `_`, `-` or `.`",
         Word::Text => "the text is not 0 to 256 ASCII letters, digits, `_`, `-` or `.`",
         Word::Answer => {
