@@ -9,11 +9,11 @@ use Rattle.mencius_command_line.specs.Help.{shown_for}
 use Rattle.mencius_input.specs.declared.kind.Kind.TheVariants as input
 use Rattle.mencius_input.specs.Scenario.{scenario}
 use Rattle.mencius_app.specs.Check.{check_task}
-use Rattle.mencius_app.specs.Drawing.{ExplainsPicture, draw_task}
+use Rattle.mencius_app.specs.Pictures.{ExplainsPicture, draw_task}
 use Rattle.mencius_app.specs.Ending.{failure_in}
 use Rattle.mencius_app.specs.Failures.{ExplainsAs, ExplainsByFields, ExplainsIn, Explanation, Fails}
 use Rattle.mencius_app.specs.Input.{HasFault, unless_long}
-use Rattle.mencius_app.specs.Judging.{ExplainsByLine, judge_task}
+use Rattle.mencius_app.specs.Judgements.{ExplainsByLine, judge_task}
 use Rattle.mencius_app.specs.Replay.{replay_task}
 use Rattle.mencius_app.specs.Run.{run_task}
 use Rattle.mencius_app.specs.Tasks.{AsksLittle, IsCause, Streams, Task, Writes}

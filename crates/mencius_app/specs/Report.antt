@@ -5,7 +5,7 @@ use Rattle.mencius_model.specs.Trace.{Trace, events, sent_messages, submitted_co
 use Rattle.mencius_base.specs.Members.{Membership, numbers_below}
 use Rattle.mencius_base.specs.Numbers.{ServerId}
 use Rattle.mencius_model.specs.Server.{done, front}
-use Rattle.mencius_model.specs.Replying.{reply_of}
+use Rattle.mencius_model.specs.Replies.{reply_of}
 use Rattle.mencius_model.specs.Executed.{history}
 use Rattle.mencius_trace.specs.Words.{answer_line, tickets_text}
 

@@ -2,7 +2,7 @@
 use Rattle.std.specs.Prelude.{◌≡◌, ℕ, Bool, true, if◌then◌else◌, Ok, List, [], ◌∷◌, ◌++◌, codes, Option, Some, None}
 use Rattle.mencius_model.specs.KeyMap.{value_at}
 use Rattle.mencius_model.specs.Next.{replay}
-use Rattle.mencius_model.specs.Replying.{longest_commands}
+use Rattle.mencius_model.specs.Replies.{longest_commands}
 use Rattle.mencius_cluster.specs.State.{ClusterState, trace_of}
 use Rattle.mencius_input.specs.Plan.{plan}
 use Rattle.mencius_app.specs.Input.{HasFault, Says, unless_long}

@@ -3,7 +3,7 @@ use Rattle.std.specs.Prelude.{◌≡◌, ℕ, true, List, Option}
 use Rattle.mencius_base.specs.Members.{Membership}
 use Rattle.mencius_base.specs.declared.event.Event.{Event}
 use Rattle.mencius_input.specs.Scenario.{scenario}
-use Rattle.mencius_trace.specs.Closing.{trace_text}
+use Rattle.mencius_trace.specs.LastLines.{trace_text}
 use Rattle.mencius_app.specs.Input.{HasFault, unless_long}
 use Rattle.mencius_app.specs.Replay.{IsMadeOf}
 use Rattle.mencius_app.specs.Tasks.{Task}

@@ -3,7 +3,7 @@
 ghost use Rattle.std.specs.Prelude.{◌≡◌, ◌≤◌, ◌+◌, string_bytes, IfErr, IfOk};
 ghost use Rattle.mencius_io.specs.Streams.{most_failed_calls};
 ghost use Rattle.mencius_app.specs.Failures.{Fails, FailsReading};
-ghost use Rattle.mencius_app.specs.Judging.{ExplainsByLine, is_kept, judge_task, verdict_line};
+ghost use Rattle.mencius_app.specs.Judgements.{ExplainsByLine, is_kept, judge_task, verdict_line};
 ghost use Rattle.mencius_app.specs.Tasks.{IsOutput, Writes, streams};
 
 use crate::output::{Output, deliver};

@@ -3,7 +3,7 @@
 ghost use Rattle.std.specs.Prelude.{◌≡◌, IfErr, IfOk, IfSome, Ok, OnOk, string_bytes, true};
 ghost use Rattle.std.specs.Io.KnownBytes.{IsAtEnd};
 ghost use Rattle.mencius_draw.specs.Picture.{IsPicture};
-ghost use Rattle.mencius_app.specs.Drawing.{ExplainsPicture, IsRefusedAs, draw_task, too_large_words};
+ghost use Rattle.mencius_app.specs.Pictures.{ExplainsPicture, IsRefusedAs, draw_task, too_large_words};
 ghost use Rattle.mencius_app.specs.Failures.{Fails, FailsReading};
 ghost use Rattle.mencius_app.specs.Tasks.{AsksLittle, AsksReader, IsOutput, Writes, streams};
 

@@ -9,7 +9,7 @@ ghost use Rattle.mencius_io.specs.Streams.{HasFailed, WritesFront, most_failed_c
 ghost use Rattle.mencius_app.specs.Report.{report_text, server_line};
 ghost use Rattle.mencius_model.specs.Trace.{submitted_commands};
 ghost use Rattle.mencius_cluster.specs.State.{trace_of};
-ghost use Rattle.mencius_model.specs.Replying.{reply_of};
+ghost use Rattle.mencius_model.specs.Replies.{reply_of};
 ghost use Rattle.mencius_trace.specs.Words.{answer_line, tickets_text};
 
 use crate::fault::AppFault;

@@ -9,7 +9,7 @@ ghost use Rattle.mencius_app.specs.Tasks.{AsksLittle, AsksReader, IsOutput, Writ
 ghost use Rattle.mencius_app.specs.Trace.{trace_task};
 ghost use Rattle.mencius_cluster.specs.Salt.{hasher_with};
 ghost use Rattle.mencius_cluster.specs.State.{trace_of};
-ghost use Rattle.mencius_trace.specs.Closing.{events_text, trace_text};
+ghost use Rattle.mencius_trace.specs.LastLines.{events_text, trace_text};
 ghost use Rattle.mencius_input.specs.Scenario.{scenario};
 
 use crate::input::read_input;

@@ -6,7 +6,7 @@ use Rattle.mencius_base.specs.declared.refusal.Refusal.{Refusal}
 use Rattle.mencius_base.specs.Members.{Membership}
 use Rattle.mencius_model.specs.Next.{replay}
 use Rattle.mencius_cluster.specs.declared.cluster.Effect.{Effect}
-use Rattle.mencius_model.specs.Replying.{longest_commands}
+use Rattle.mencius_model.specs.Replies.{longest_commands}
 use Rattle.mencius_cluster.specs.State.{ClusterState, IsStepped, trace_of}
 use Rattle.mencius_board.specs.Boards.{IsSteady, longest_of}
 use Rattle.mencius_model.proofs.trace.Prefixes.{prefix_self}

@@ -4,7 +4,7 @@ use mathlib.Core.List.{IsPrefix}
 use Rattle.mencius_base.specs.declared.command.Command.{Command}
 use Rattle.mencius_model.specs.Next.{replay}
 use Rattle.mencius_model.specs.Laws.{Grows}
-use Rattle.mencius_model.specs.Replying.{longest_commands}
+use Rattle.mencius_model.specs.Replies.{longest_commands}
 use Rattle.mencius_cluster.specs.State.{ClusterState, trace_of}
 use Rattle.mencius_board.specs.Marks.{MarkState, Origin, VersionState, mark_of}
 use Rattle.mencius_board.specs.Shown.{book_of}

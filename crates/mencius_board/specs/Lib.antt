@@ -6,6 +6,6 @@ pub mod Pending
 pub mod Boards
 pub mod Faults
 pub mod Turns
-pub mod Running
+pub mod Workers
 pub mod Runs
 pub mod Readings

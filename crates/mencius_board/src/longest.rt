@@ -1,6 +1,6 @@
 ghost use Rattle.std.specs.Prelude.{◌≡◌, ◌<◌, ◌^◌, ◌++◌, IfOk, OnOk, length, option_to_list};
 ghost use Rattle.mencius_model.specs.Trace.{submitted_commands};
-ghost use Rattle.mencius_model.specs.Replying.{command_at};
+ghost use Rattle.mencius_model.specs.Replies.{command_at};
 ghost use Rattle.mencius_cluster.specs.State.{trace_of};
 ghost use Rattle.mencius_board.specs.Boards.{longest_of};
 

@@ -4,7 +4,7 @@ ghost use Rattle.std.specs.Fn.{FnOnceReturnsAtMut};
 ghost use Rattle.mencius_choices.specs.Choices.{after_words, chooser_at};
 ghost use Rattle.mencius_board.specs.Turns.{EndsTurn, IsAfterTurn, TakesTurn, is_to_show};
 ghost use Rattle.mencius_board.specs.Faults.{IsRunFault, IsTurnFault};
-ghost use Rattle.mencius_board.specs.Running.{Answers, HasEnded, HaveEnded, HaveFailed, HaveTurned, choosers_or_fault};
+ghost use Rattle.mencius_board.specs.Workers.{Answers, HasEnded, HaveEnded, HaveFailed, HaveTurned, choosers_or_fault};
 ghost use Rattle.mencius_board.specs.declared.fault.BoardFault.TheVariants.{NoWorker};
 
 use crate::board::Board;
@@ -168,7 +168,7 @@ struct ProgressOf<'p> {
 }
 
 impl<'p> Promise<Result<Progress, BoardFault>> for ProgressOf<'p> {
-    ghost use Rattle.mencius_board.specs.Running.{HasEnded};
+    ghost use Rattle.mencius_board.specs.Workers.{HasEnded};
 
     ghost kept_by = { λ x r. HasEnded x.plan.now x.worker r };
 }

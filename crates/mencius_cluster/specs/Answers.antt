@@ -4,7 +4,7 @@ use Rattle.std.specs.Option.{option_map}
 use Rattle.mencius_base.specs.declared.command.Command.{Command}
 use Rattle.mencius_base.specs.Members.{Membership}
 use Rattle.mencius_base.specs.Numbers.{ServerId}
-use Rattle.mencius_model.specs.Replying.{Answered, Pending, Given, commands_of}
+use Rattle.mencius_model.specs.Replies.{Answered, Pending, Given, commands_of}
 use Rattle.mencius_cluster.specs.declared.submission.Answered.{Answered as StoredAnswered}
 use Rattle.mencius_cluster.specs.declared.submission.Answered.TheVariants.{Pending as Pending_stored, Given as Given_stored}
 use Rattle.mencius_cluster.specs.declared.submission.Submission.{Submission}

@@ -10,7 +10,7 @@ use Rattle.mencius_cluster.specs.declared.submission.Submission.{Submission}
 use Rattle.mencius_cluster.specs.Answers.{bytes_in}
 use Rattle.indexmap.specs.IndexMap.{set_value_at}
 use Rattle.mencius_cluster.specs.Submissions.{Row}
-use Rattle.mencius_model.specs.Replying.{first_reply}
+use Rattle.mencius_model.specs.Replies.{first_reply}
 
 -- server p executed the command of ticket t, and its executor went from x to y. Only the command's row may change, and
 -- only in its reply. If p is the home and the command had no reply, the reply is now the former text at its key

@@ -18,7 +18,7 @@ use Rattle.map_exec.specs.State.{ExecutorState}
 use Rattle.mencius_cluster.specs.State.{entries_of, event_by}
 use Rattle.mencius_cluster.specs.Submissions.{Row}
 use Rattle.mencius_cluster.specs.Answers.{executor_at, bytes_in, submitted_in}
-use Rattle.mencius_model.specs.Replying.{reply_at}
+use Rattle.mencius_model.specs.Replies.{reply_at}
 
 -- the command of a row
 abbrev pub command_in_row : Row → Command

@@ -3,7 +3,7 @@ ghost use Rattle.std.specs.FinMap as finite;
 ghost use Rattle.map_exec.specs.State.{after_execution};
 ghost use Rattle.mencius_model.specs.KeyMap.{key_of};
 ghost use Rattle.mencius_cluster.specs.Answers.{bytes_in};
-ghost use Rattle.mencius_model.specs.Replying.{first_reply};
+ghost use Rattle.mencius_model.specs.Replies.{first_reply};
 
 use map_exec::{Executor, Reply};
 use mencius_base::{Command, NoMemory};

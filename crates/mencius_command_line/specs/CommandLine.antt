@@ -9,7 +9,7 @@ use Rattle.clap.specs.declared.builder.action.ArgAction.TheVariants.{Set, SetTru
 use Rattle.clap.specs.declared.error.kind.ErrorKind.TheVariants as kind
 use Rattle.mencius_base.specs.Command.{is_key_length, is_name}
 use Rattle.mencius_draw.specs.declared.options.Options.{Options}
-use Rattle.mencius_command_line.specs.Drawing.{draw_task, options_of, part_faults}
+use Rattle.mencius_command_line.specs.DrawOptions.{draw_task, options_of, part_faults}
 use Rattle.mencius_command_line.specs.Flags.{has_flag}
 use Rattle.mencius_command_line.specs.declared.line.Task.{Task}
 use Rattle.mencius_command_line.specs.declared.line.Task.TheVariants as task

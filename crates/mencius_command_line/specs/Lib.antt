@@ -1,4 +1,4 @@
 pub mod Flags
-pub mod Drawing
+pub mod DrawOptions
 pub mod CommandLine
 pub mod Help

@@ -3,7 +3,7 @@
 ghost use Rattle.std.specs.Prelude.{◌≡◌, IfOk, Ok, Some, false};
 ghost use Rattle.clap.specs.declared.builder.command.Command.TheViews.{out-Command as fields_of};
 ghost use Rattle.clap.specs.Words.{FailsBy, app_of, first_of, found_of, kind_of, rows_of, rule_of};
-ghost use Rattle.mencius_command_line.specs.Drawing.{dark_option, draw_task, light_option, options_of, part_faults, place_faults, place_in, place_option, scheme_by};
+ghost use Rattle.mencius_command_line.specs.DrawOptions.{dark_option, draw_task, light_option, options_of, part_faults, place_faults, place_in, place_option, scheme_by};
 
 use crate::line::has_flag;
 use clap::error::ErrorKind;

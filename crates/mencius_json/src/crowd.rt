@@ -4,7 +4,7 @@ ghost use Rattle.std.specs.Prelude.{◌≡◌, ◌==◌, ◌||◌, length};
 ghost use Rattle.std.specs.List.{filter};
 ghost use Rattle.mencius_json.specs.Crowds.{braces_in, brackets_in, crowd_in, separators_in};
 
-use crate::counting::count_of;
+use crate::count::count_of;
 
 /// A sign that is so frequent in a text that we build no tree from it. The reason is the memory that the tree would
 /// use.

@@ -5,11 +5,11 @@
 //! `serde_json`, which `tree` builds. If the text is not JSON, the result is `Invalid`. `stops` then says in words
 //! where the text stops being JSON.
 //!
-//! `crowd` finds the texts that would need too large a tree. It counts their bytes with `counting`. The crates above
+//! `crowd` finds the texts that would need too large a tree. It counts their bytes with `count`. The crates above
 //! interpret the text.
 #![tactic(auto)]
 
-mod counting;
+mod count;
 mod crowd;
 mod stops;
 mod tree;

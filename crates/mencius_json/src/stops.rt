@@ -5,7 +5,7 @@ ghost use Rattle.std.specs.List.{filter};
 ghost use Rattle.json.specs.Word.{is_space};
 ghost use Rattle.mencius_json.specs.Stops.{IsStop, IsWrongAt, characters_in, place_behind, stop_words};
 
-use crate::counting::count_of;
+use crate::count::count_of;
 use crate::crowd::crowd_in;
 use crate::tree::memory_apart;
 use crate::value::{MOST_DEPTH, pass, whole_number};

@@ -10,6 +10,6 @@ pub mod Lines
 pub mod Counts
 pub mod Linearization
 pub mod VerdictLines
-pub mod Reading
+pub mod LogReader
 pub mod Written
 pub mod Taken

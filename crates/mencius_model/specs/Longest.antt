@@ -3,7 +3,7 @@ use Rattle.std.specs.Prelude.{◌≤◌, ◌<◌, length}
 use Rattle.mencius_base.specs.Members.{IsMember, Membership}
 use Rattle.mencius_base.specs.Numbers.{ServerId}
 use Rattle.mencius_model.specs.Executed.{history}
-use Rattle.mencius_model.specs.Replying.{longest_at}
+use Rattle.mencius_model.specs.Replies.{longest_at}
 use Rattle.mencius_model.specs.Trace.{Trace}
 
 -- p is a member, no member has a longer history than p, and each server with a lower number has a shorter history than

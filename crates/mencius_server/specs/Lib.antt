@@ -10,7 +10,7 @@ pub mod OwnedIntervals
 pub mod SlotTable
 pub mod LearnedIntervals
 pub mod Slots
-pub mod Lending
+pub mod LentSlots
 pub mod Changes
 pub mod Instances
 pub mod Tallies

@@ -6,7 +6,7 @@ ghost use Rattle.coord_paxos.specs.SlotState.{SlotState};
 ghost use Rattle.mencius_base.specs.Members.{numbers_below, instances, owner};
 ghost use Rattle.mencius_base.specs.declared.message.Value.TheVariants.{Noop};
 ghost use Rattle.mencius_server.specs.Instances.{is_newly_skipped_in, slot_by_skip};
-ghost use Rattle.mencius_server.specs.Lending.{LendsSlot};
+ghost use Rattle.mencius_server.specs.LentSlots.{LendsSlot};
 ghost use Rattle.mencius_server.specs.Machine.{is_spent};
 ghost use Rattle.mencius_server.specs.SlotTable.{IsSlotTable, stored_slots};
 ghost use Rattle.mencius_server.specs.Intervals.{AreSkippedIntervals, is_between, is_in_any};

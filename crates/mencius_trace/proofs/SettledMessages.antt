@@ -14,7 +14,7 @@ use Rattle.mencius_model.specs.Trace.{Line, Sent, Learned, Trace}
 use Rattle.mencius_model.specs.Next.{head, lines, next, replay, replay_from, replay_on, submission_count, with_event}
 use Rattle.mencius_model.proofs.events.EventLines.{IsAnswer, answers, unchanged_after}
 use Rattle.mencius_model.proofs.rights.EventRights.{NoneHolds, next_is}
-use Rattle.mencius_trace.specs.Closing.{is_settled_by}
+use Rattle.mencius_trace.specs.LastLines.{is_settled_by}
 use Rattle.mencius_trace.specs.Settled.{IsOfServer, is_settled_by_entry}
 use Rattle.mencius_model.proofs.trace.Parts.{causes}
 

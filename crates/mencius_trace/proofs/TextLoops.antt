@@ -9,7 +9,7 @@ use Rattle.mencius_base.specs.Members.{numbers_below}
 use Rattle.mencius_model.specs.Trace.{Trace}
 use Rattle.mencius_model.specs.Server.{waiting_at, waiting_tickets}
 use Rattle.mencius_model.proofs.trace.NumberLists.{below-more, instances-below}
-use Rattle.mencius_trace.specs.Closing.{ticket_in}
+use Rattle.mencius_trace.specs.LastLines.{ticket_in}
 use Rattle.mencius_trace.specs.Words.{ticket_text, tickets_text}
 
 -- a range with one more number ends with that number

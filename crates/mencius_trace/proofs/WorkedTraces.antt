@@ -13,7 +13,7 @@ use Rattle.mencius_base.specs.declared.event.Event.TheVariants.{Submit, Deliver,
 use Rattle.mencius_base.specs.Members.{Membership, new_members, numbers_below, instances, most_messages, most_events}
 use Rattle.mencius_model.specs.KeyMap.{map_after}
 use Rattle.mencius_trace.specs.Words.{former_text}
-use Rattle.mencius_trace.specs.Closing.{trace_text}
+use Rattle.mencius_trace.specs.LastLines.{trace_text}
 
 abbrev three : Membership
 three = new_members 3

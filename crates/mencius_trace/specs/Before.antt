@@ -17,7 +17,7 @@ use Rattle.mencius_model.specs.Trace.{Trace, sent_messages, Learned}
 use Rattle.mencius_model.specs.Instance.{learned_value}
 use Rattle.mencius_model.specs.Server.{done, front}
 use Rattle.mencius_model.specs.Next.{replay, server_of}
-use Rattle.mencius_model.specs.Replying.{command_at}
+use Rattle.mencius_model.specs.Replies.{command_at}
 use Rattle.mencius_trace.specs.declared.before.Before.{Before}
 use Rattle.mencius_trace.specs.declared.reaction.Reaction.{Reaction}
 use Rattle.mencius_trace.specs.Effects.{reaction, instance_of, is_pending, learned_lines}

@@ -19,7 +19,7 @@ use Rattle.mencius_model.specs.Trace.{Line, Learned, Trace, messages_of, sent_me
 use Rattle.mencius_model.specs.Instance.{learned_value}
 use Rattle.mencius_model.specs.Server.{done, front}
 use Rattle.mencius_model.specs.Next.{learned_count, lines, next, server_of}
-use Rattle.mencius_model.specs.Replying.{Answered, Given, Pending, command_at, reply_of}
+use Rattle.mencius_model.specs.Replies.{Answered, Given, Pending, command_at, reply_of}
 use Rattle.mencius_trace.specs.declared.reaction.Reaction.{Reaction}
 use Rattle.mencius_trace.specs.declared.reaction.Reaction.TheVariants.{Effective, Counted, Promised, Tries, Learned as LearnedBefore, Proposed}
 use Rattle.mencius_trace.specs.Facts.{event_line, executed_line, front_line, learned_line, refused_line, sent_line, tally_line, value_text}

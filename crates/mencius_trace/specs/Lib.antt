@@ -3,5 +3,5 @@ pub mod Facts
 pub mod Effects
 pub mod Before
 pub mod After
-pub mod Closing
+pub mod LastLines
 pub mod Settled

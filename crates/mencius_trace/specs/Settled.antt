@@ -9,7 +9,7 @@ use Rattle.mencius_base.specs.declared.event.Entry.TheVariants.{Deliver, Lose}
 use Rattle.mencius_cluster.specs.MessageBits.{MessageBitsState, has_bit_in}
 use Rattle.mencius_model.specs.Trace.{Lost, Trace}
 use Rattle.mencius_model.specs.Next.{is_loss}
-use Rattle.mencius_trace.specs.Closing.{is_settled_by}
+use Rattle.mencius_trace.specs.LastLines.{is_settled_by}
 
 -- the message that a stored event delivers or loses, and the server that hears or loses it
 abbrev pub settled_pair : Entry → Option (MessageNo × ServerId)

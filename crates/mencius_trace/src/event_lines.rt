@@ -8,7 +8,7 @@ ghost use Rattle.mencius_base.specs.declared.event.Event.{Event};
 ghost use Rattle.mencius_base.specs.declared.refusal.Refusal.TheVariants.{NoMemory as Unreserved};
 ghost use Rattle.mencius_cluster.specs.State.{ClusterState, IsStepped, trace_of};
 ghost use Rattle.mencius_model.specs.Next.{next};
-ghost use Rattle.mencius_model.specs.Replying.{command_at};
+ghost use Rattle.mencius_model.specs.Replies.{command_at};
 ghost use Rattle.mencius_model.specs.Server.{front};
 ghost use Rattle.mencius_model.specs.Trace.{sent_messages};
 ghost use Rattle.mencius_trace.specs.After.{execution_after, learned_after, learned_at, learned_of, messages_from, notice_after, of_message};

@@ -5,7 +5,7 @@ ghost use Rattle.mencius_base.specs.Limits.{instance_count};
 ghost use Rattle.mencius_base.specs.Members.{IsMember};
 ghost use Rattle.mencius_cluster.specs.State.{trace_of};
 ghost use Rattle.mencius_model.specs.Server.{waiting_at, waiting_tickets};
-ghost use Rattle.mencius_trace.specs.Closing.{closing_text, progress_text, server_line, server_lines, ticket_in};
+ghost use Rattle.mencius_trace.specs.LastLines.{closing_text, progress_text, server_line, server_lines, ticket_in};
 ghost use Rattle.mencius_trace.specs.Words.{tickets_text};
 
 use crate::unheard::push_unheard;

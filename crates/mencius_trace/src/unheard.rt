@@ -7,7 +7,7 @@ ghost use Rattle.mencius_cluster.specs.MessageBits.{has_bit_in};
 ghost use Rattle.mencius_cluster.specs.State.{trace_of};
 ghost use Rattle.mencius_model.specs.Trace.{Trace, sent_messages};
 ghost use Rattle.mencius_trace.specs.After.{of_message};
-ghost use Rattle.mencius_trace.specs.Closing.{is_settled_by, unheard_line, unheard_lines, unheard_text};
+ghost use Rattle.mencius_trace.specs.LastLines.{is_settled_by, unheard_line, unheard_lines, unheard_text};
 ghost use Rattle.mencius_trace.specs.Settled.{AreSettled, IsOfServer, is_settled_by_entry};
 
 use crate::facts::kind_of;

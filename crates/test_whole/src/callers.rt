@@ -12,13 +12,13 @@ use mencius_base::{Ballot, Event, Members, Message, Outbox, Refusal};
 use mencius_board::readings::{Reading, look_up_shown, look_up_within};
 use mencius_board::{Board, BoardFault, Reader};
 use mencius_cluster::Cluster;
-use worked_proofs::histories::{TwoHistories, histories, note_across};
-use worked_proofs::hands::deliver;
 use mencius_server::Server;
 use std::alloc::Global;
 use std::panic::Expect;
 use std::process::Abort;
 use std::sync::Wait;
+use worked_proofs::hands::deliver;
+use worked_proofs::histories::{TwoHistories, histories, note_across};
 
 // The number of events that come first, two servers, the history of the first server then, and the history of the
 // second server after all events.

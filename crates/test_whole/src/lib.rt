@@ -3,9 +3,9 @@
 #![tactic(auto)]
 
 #[cfg(test)]
-mod calls;
-#[cfg(test)]
 mod callers;
+#[cfg(test)]
+mod calls;
 #[cfg(test)]
 mod courses;
 #[cfg(test)]

@@ -8,7 +8,7 @@ use Rattle.mencius_draw.specs.declared.options.Options.{Options}
 use Rattle.mencius_draw.specs.Places.{most_levels}
 use Rattle.mencius_input.specs.Scenario.{scenario}
 use Rattle.mencius_input.specs.declared.kind.Kind.TheVariants.{Replay}
-use Rattle.mencius_app.specs.Drawing.{ExplainsPicture, IsRefusedAs, draw_task, levels_in, too_large_words}
+use Rattle.mencius_app.specs.Pictures.{ExplainsPicture, IsRefusedAs, draw_task, levels_in, too_large_words}
 use Rattle.mencius_app.specs.Failures.{ExplainsAs, ExplainsIn, FailsReading}
 use Rattle.mencius_app.specs.Input.{HasFault, unless_long}
 use Rattle.mencius_app.specs.Trace.{IsTraceOf}

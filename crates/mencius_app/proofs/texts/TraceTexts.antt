@@ -4,7 +4,7 @@ use Rattle.std.specs.Result.{result_unwrap_or}
 use Rattle.mencius_base.specs.declared.event.Event.{Event}
 use Rattle.mencius_model.specs.Next.{next}
 use Rattle.mencius_cluster.specs.State.{ClusterState, trace_of}
-use Rattle.mencius_trace.specs.Closing.{closing_text, events_text}
+use Rattle.mencius_trace.specs.LastLines.{closing_text, events_text}
 use Rattle.mencius_trace.specs.Effects.{event_lines}
 
 -- the text so far, followed by the lines of the events that are left, is the old text followed by the lines of all

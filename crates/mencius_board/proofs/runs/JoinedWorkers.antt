@@ -5,7 +5,7 @@ use Rattle.mencius_board.specs.declared.fault.BoardFault.TheVariants.{NoWorker}
 use Rattle.core.specs.declared.thread.PromisedHandle.{PromisedHandle}
 use Rattle.mencius_board.specs.declared.workers.ProgressOf.{ProgressOf}
 use Rattle.mencius_base.specs.Plan.{PlanState}
-use Rattle.mencius_board.specs.Running.{Answers, EndState, HasEnded, IsWorkerEnd}
+use Rattle.mencius_board.specs.Workers.{Answers, EndState, HasEnded, IsWorkerEnd}
 
 pub ended : {T : Type 0} (o : Option (PromisedHandle T ProgressOf)) (plan : PlanState) (worker : ℕ) (end : EndState)
     → Answers plan worker o

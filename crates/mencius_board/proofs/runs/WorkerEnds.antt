@@ -6,7 +6,7 @@ use Rattle.mencius_board.specs.declared.fault.BoardFault.{BoardFault}
 use Rattle.mencius_choices.specs.Choices.{ChooserState, HasTurned, ProgressState, chooser_at, first_chooser}
 use Rattle.mencius_board.specs.Faults.{IsRunFault}
 use Rattle.mencius_base.specs.Plan.{PlanState}
-use Rattle.mencius_board.specs.Running.{EndState, HaveEnded, HaveFailed, HaveTurned, IsWorkerEnd, TakesTurns, choosers_behind, choosers_or_fault}
+use Rattle.mencius_board.specs.Workers.{EndState, HaveEnded, HaveFailed, HaveTurned, IsWorkerEnd, TakesTurns, choosers_behind, choosers_or_fault}
 use Rattle.mencius_board.proofs.logs.ListSteps.{more_of}
 
 -- each of these ends belongs to the worker whose number is n plus the place of the end in the list

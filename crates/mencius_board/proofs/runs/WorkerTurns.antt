@@ -5,7 +5,7 @@ use Rattle.mencius_board.specs.declared.fault.BoardFault.{BoardFault}
 use Rattle.mencius_board.specs.Boards.{BoardState}
 use Rattle.mencius_choices.specs.Choices.{ChooserState}
 use Rattle.mencius_board.specs.Faults.{IsShowFault, IsTurnFault}
-use Rattle.mencius_board.specs.Running.{TakesTurns}
+use Rattle.mencius_board.specs.Workers.{TakesTurns}
 use Rattle.mencius_board.specs.Turns.{EndsTurn, HasNoMemory, IsAfterTurn, TakesTurn, is_to_show}
 
 turned_fault : (old new : ChooserState) (before after : BoardState) (shows : Bool)

@@ -27,7 +27,7 @@ use Rattle.mencius_format.proofs.WrittenWords.{Lacks, cut_at, entry_good, lacks_
 use Rattle.mencius_judge.specs.declared.observation.Observation.{Observation}
 use Rattle.mencius_judge.specs.declared.observation.Observation.TheVariants.{Submit, Execute, Reply, Lookup, Tell}
 use Rattle.mencius_judge.specs.Lines.{answer_of, is_answer_within, is_passed_over, line_said, most_line_bytes, observation_of, is_observation_within}
-use Rattle.mencius_judge.specs.Reading.{AddsLine, IsInLine}
+use Rattle.mencius_judge.specs.LogReader.{AddsLine, IsInLine}
 use Rattle.mencius_judge.specs.VerdictLines.{held_text}
 use Rattle.mencius_judge.specs.Written.{IsAnswer, IsIdentity, IsSayable, LogsReadBack, ObservationsReadBack, observation_line, observation_text}
 

@@ -6,7 +6,7 @@ use Rattle.mencius_base.specs.Numbers.{ServerId}
 use Rattle.mencius_base.specs.Members.{Membership, numbers_below}
 use Rattle.mencius_model.specs.Trace.{Trace}
 use Rattle.mencius_model.proofs.trace.NumberLists.{below-more}
-use Rattle.mencius_model.specs.Replying.{longest_at}
+use Rattle.mencius_model.specs.Replies.{longest_at}
 use Rattle.mencius_model.specs.Executed.{history}
 use Rattle.mencius_model.proofs.trace.Parts.{longest_below}
 

@@ -15,7 +15,7 @@ use Rattle.mencius_model.specs.Next.{head, with_event}
 use Rattle.mencius_model.specs.Executed.{history}
 use Rattle.mencius_model.proofs.trace.NumberLists.{below-more, map-below_same}
 use Rattle.mencius_model.specs.KeyMap.{out}
-use Rattle.mencius_model.specs.Replying.{Given, Answered, command_at, commands_of, index_of_first, reply_at}
+use Rattle.mencius_model.specs.Replies.{Given, Answered, command_at, commands_of, index_of_first, reply_at}
 use Rattle.mencius_model.proofs.events.EventLines.{done-event, learned_value-event, submitted_commands-event}
 use Rattle.mencius_model.proofs.reached.ClusterFacts.{HasClusterFacts}
 use Rattle.mencius_model.proofs.trace.Parts.{reply_from}

@@ -8,7 +8,7 @@ use Rattle.mencius_base.specs.Members.{Membership}
 use Rattle.mencius_model.specs.Trace.{Trace, submitted_commands}
 use Rattle.mencius_base.specs.Command.{is_same_id}
 use Rattle.mencius_model.specs.Executed.{history}
-use Rattle.mencius_model.specs.Replying.{Answered, Pending, Given, index_of_first, reply_of}
+use Rattle.mencius_model.specs.Replies.{Answered, Pending, Given, index_of_first, reply_of}
 use Rattle.mencius_model.specs.Laws.{IsReply, IsPending}
 use Rattle.mencius_model.proofs.trace.Lists.{none_in, get_in}
 use Rattle.mencius_model.proofs.rights.LineRights.{IsGrown}

@@ -19,7 +19,7 @@ use Rattle.mencius_model.specs.Server.{free_instance, front, is_suggested_again_
 use Rattle.mencius_model.specs.Next.{cluster_causes, on_message, server_causes}
 use Rattle.mencius_model.specs.Executed.{history}
 use Rattle.mencius_model.specs.KeyMap.{out}
-use Rattle.mencius_model.specs.Replying.{Answered, Given, Pending, commands_of, reply_at}
+use Rattle.mencius_model.specs.Replies.{Answered, Given, Pending, commands_of, reply_at}
 
 -- An accepted ballot with the value that was proposed at it, if both exist.
 abbrev pub vote_of : Trace → Inst → Option BallotNo → Option Vote

@@ -15,7 +15,7 @@ use Rattle.mencius_model.specs.Server.{front, done}
 use Rattle.mencius_model.specs.Next.{replay}
 use Rattle.mencius_model.specs.KeyMap.{map_after}
 use Rattle.mencius_model.specs.Executed.{history}
-use Rattle.mencius_model.specs.Replying.{Answered, Pending, Given, reply_of, longest_at}
+use Rattle.mencius_model.specs.Replies.{Answered, Pending, Given, reply_of, longest_at}
 
 abbrev one : Membership
 one = new_members 1

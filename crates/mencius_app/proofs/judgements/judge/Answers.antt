@@ -1,5 +1,5 @@
 use Rattle.std.proofs.Common.{refl}
-use Rattle.mencius_app.specs.Judging.{ExplainsByLine, judge_task}
+use Rattle.mencius_app.specs.Judgements.{ExplainsByLine, judge_task}
 use Rattle.mencius_app.specs.Tasks.{streams}
 use Rattle.mencius_app.proofs.inputs.TaskEnds.{delivered, undelivered}
 use Rattle.mencius_app.proofs.judgements.judge.Goals as goal

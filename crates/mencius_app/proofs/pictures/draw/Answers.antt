@@ -1,5 +1,5 @@
 use Rattle.std.proofs.Common.{Err, refl}
-use Rattle.mencius_app.specs.Drawing.{ExplainsPicture, draw_task}
+use Rattle.mencius_app.specs.Pictures.{ExplainsPicture, draw_task}
 use Rattle.mencius_app.specs.Tasks.{streams}
 use Rattle.mencius_app.proofs.inputs.Inputs.{at_err}
 use Rattle.mencius_app.proofs.inputs.TaskEnds.{undelivered}

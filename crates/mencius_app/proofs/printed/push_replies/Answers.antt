@@ -2,7 +2,7 @@ use Rattle.std.proofs.Common.{◌≡◌, ◌∙◌, ℕ, zero, suc, ◌+◌, ◌
 use Rattle.std.specs.List.{flat_map, slice_get}
 use Rattle.std.specs.Option.{option_map_or}
 use Rattle.std.proofs.lemmas.List.{take_all}
-use Rattle.mencius_model.specs.Replying.{reply_of}
+use Rattle.mencius_model.specs.Replies.{reply_of}
 use Rattle.mencius_base.specs.declared.command.Command.{Command}
 use Rattle.mencius_base.specs.Numbers.{ServerId}
 use Rattle.mencius_model.specs.Trace.{Trace, submitted_commands}

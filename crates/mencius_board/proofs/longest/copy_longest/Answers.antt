@@ -4,7 +4,7 @@ use Rattle.std.specs.Prelude.{option_to_list, Contains}
 use Rattle.mencius_base.specs.declared.command.Command.{Command}
 use Rattle.mencius_model.specs.Server.{done}
 use Rattle.mencius_model.specs.Executed.{history}
-use Rattle.mencius_model.specs.Replying.{command_at, commands_of}
+use Rattle.mencius_model.specs.Replies.{command_at, commands_of}
 use Rattle.mencius_cluster.specs.State.{trace_of}
 use Rattle.mencius_board.specs.Boards.{longest_of}
 use Rattle.mencius_board.proofs.LongestCopy.{commands_next, longest_few, take_whole}

@@ -2,7 +2,7 @@ use Rattle.std.specs.Prelude.{◌≡◌, ℕ, ◌+◌, ◌<◌, get_or, length, 
 use Rattle.std.proofs.Common.{rules, arith, add-zero, subst, sym}
 use Rattle.std.specs.Vec.Iter.{into_iter_items, into_iter_len}
 use Rattle.mencius_base.specs.Plan.{PlanState}
-use Rattle.mencius_board.specs.Running.{Answers, EndState, IsWorkerEnd}
+use Rattle.mencius_board.specs.Workers.{Answers, EndState, IsWorkerEnd}
 use Rattle.mencius_board.proofs.runs.JoinedWorkers.{ended}
 use Rattle.mencius_board.proofs.logs.ListSteps.{first_of, more_of}
 use Rattle.mencius_board.proofs.workers.gather.Goals as goal

@@ -1,6 +1,6 @@
 use Rattle.std.specs.Prelude.{◌≡◌, ℕ, ◌+◌, ◌<◌, ◌≤◌, get_or, vec_items, vec_len, vec_capacity}
 use Rattle.std.specs.Vec.Iter.{into_iter_items, into_iter_len}
-use Rattle.mencius_board.specs.Running.{Answers, HaveEnded}
+use Rattle.mencius_board.specs.Workers.{Answers, HaveEnded}
 use Rattle.mencius_board.proofs.workers.gather.Given as goal
 
 abbrev pub invariant-loop-child : goal.invariant-loop-child

@@ -1,6 +1,6 @@
 use Rattle.std.specs.Prelude.{◌≡◌, ◌+◌, ◌≤◌, vec_items, vec_len, vec_capacity}
 use Rattle.std.specs.Vec.Iter.{into_iter_items, into_iter_len}
-use Rattle.mencius_board.specs.Running.{choosers_behind, choosers_or_fault}
+use Rattle.mencius_board.specs.Workers.{choosers_behind, choosers_or_fault}
 use Rattle.mencius_board.proofs.workers.settle.Given as goal
 
 abbrev pub invariant-loop-end : goal.invariant-loop-end

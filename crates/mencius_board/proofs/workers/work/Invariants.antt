@@ -1,6 +1,6 @@
 use Rattle.std.proofs.Common.{◌≡◌}
 use Rattle.mencius_choices.specs.Choices.{chooser_at, drawing_after, first_chooser}
-use Rattle.mencius_board.specs.Running.{TakesTurns}
+use Rattle.mencius_board.specs.Workers.{TakesTurns}
 use Rattle.mencius_board.proofs.workers.work.Given as goal
 
 abbrev pub invariant-loop-turn : goal.invariant-loop-turn

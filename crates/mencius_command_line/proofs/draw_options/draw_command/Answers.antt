@@ -6,7 +6,7 @@ use Rattle.clap.specs.Words.{app_of, new_app, with_rule}
 use Rattle.clap.specs.declared.builder.command.Command.{Command}
 use Rattle.clap.specs.declared.builder.command.Command.TheOpen.{Command-F}
 use Rattle.clap.specs.declared.builder.command.Command.TheViews.{out-Command as fields_of}
-use Rattle.mencius_command_line.specs.Drawing.{dark_option, place_option}
+use Rattle.mencius_command_line.specs.DrawOptions.{dark_option, place_option}
 use Rattle.mencius_command_line.proofs.draw_options.draw_command.Goals as goal
 
 abbrev has_globals : Command-F Command → Bool

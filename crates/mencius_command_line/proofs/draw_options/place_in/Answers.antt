@@ -2,7 +2,7 @@ use Rattle.std.proofs.Common.{◌∙◌, ℕ, Result, ap, inl, inr, subst, sym}
 use Rattle.clap.specs.Words.{HasKind, found_of}
 use Rattle.clap.proofs.WalkLemmas.{first_value-rows}
 use Rattle.mencius_io.specs.declared.fault.IoFault.{IoFault}
-use Rattle.mencius_command_line.specs.Drawing.{place_faults, place_in}
+use Rattle.mencius_command_line.specs.DrawOptions.{place_faults, place_in}
 use Rattle.mencius_command_line.proofs.draw_options.place_in.Goals as goal
 
 pub returns-in-Ok-clause-place : goal.returns-in-Ok-clause-place

@@ -2,7 +2,7 @@ use Rattle.std.proofs.Common.{◌≡◌, ◌∙◌, ap₂}
 use Rattle.std.proofs.lemmas.Result.{IfOk-weaker}
 use Rattle.clap.specs.Words.{App, app_of, with_subcommand}
 use Rattle.mencius_command_line.specs.CommandLine.{replay_task, trace_task, without_tasks}
-use Rattle.mencius_command_line.specs.Drawing.{draw_task}
+use Rattle.mencius_command_line.specs.DrawOptions.{draw_task}
 use Rattle.mencius_command_line.proofs.line.with_replays.Goals as goal
 
 abbrev top_of : App → App → App

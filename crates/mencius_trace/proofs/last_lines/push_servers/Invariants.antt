@@ -1,7 +1,7 @@
 use Rattle.std.proofs.Common.{◌≡◌, ◌++◌, string_bytes}
 use Rattle.std.specs.List.{flat_map, range_with_len}
 use Rattle.mencius_cluster.specs.State.{trace_of}
-use Rattle.mencius_trace.specs.Closing.{server_line}
+use Rattle.mencius_trace.specs.LastLines.{server_line}
 use Rattle.mencius_trace.proofs.last_lines.push_servers.Given as goal
 
 abbrev pub invariant-loop-server : goal.invariant-loop-server

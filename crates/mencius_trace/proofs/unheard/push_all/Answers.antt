@@ -3,7 +3,7 @@ use Rattle.std.specs.Prelude.{slice_get}
 use Rattle.mencius_cluster.specs.State.{trace_of}
 use Rattle.mencius_model.specs.Trace.{sent_messages}
 use Rattle.mencius_trace.specs.After.{of_message, of_messages}
-use Rattle.mencius_trace.specs.Closing.{unheard_lines}
+use Rattle.mencius_trace.specs.LastLines.{unheard_lines}
 use Rattle.mencius_trace.proofs.MessageLines.{of_messages_are}
 use Rattle.mencius_trace.proofs.TextLoops.{texts_further}
 use Rattle.mencius_trace.proofs.unheard.push_all.Goals as goal

@@ -2,7 +2,7 @@ use Rattle.std.proofs.Common.{◌≡◌, ◌++◌, ap, ◌∙◌, arith, string_
 use Rattle.std.specs.List.{flat_map, range_with_len}
 use Rattle.mencius_base.specs.Members.{numbers_below}
 use Rattle.mencius_cluster.specs.State.{trace_of}
-use Rattle.mencius_trace.specs.Closing.{unheard_line}
+use Rattle.mencius_trace.specs.LastLines.{unheard_line}
 use Rattle.mencius_trace.proofs.TextLoops.{texts_further}
 use Rattle.mencius_trace.proofs.unheard.push_for_each.Goals as goal
 

@@ -1,7 +1,7 @@
 use Rattle.std.proofs.Common.{◌≡◌, ◌++◌, string_bytes}
 use Rattle.std.specs.List.{flat_map, range_with_len}
 use Rattle.mencius_cluster.specs.State.{trace_of}
-use Rattle.mencius_trace.specs.Closing.{unheard_line}
+use Rattle.mencius_trace.specs.LastLines.{unheard_line}
 use Rattle.mencius_trace.proofs.unheard.push_for_each.Given as goal
 
 abbrev pub invariant-loop-server : goal.invariant-loop-server

@@ -3,7 +3,7 @@ use Rattle.std.specs.Prelude.{◌≡◌, ℕ, Bool, true, false, List, Option, I
 use Rattle.mencius_io.specs.declared.fault.IoFault.{IoFault}
 use Rattle.mencius_judge.specs.declared.log_reader.Verdict.{Verdict}
 use Rattle.mencius_judge.specs.declared.log_reader.Verdict.TheVariants.{Kept, Broken}
-use Rattle.mencius_judge.specs.Reading.{AreBad, ExplainsLine, IsVerdictOf}
+use Rattle.mencius_judge.specs.LogReader.{AreBad, ExplainsLine, IsVerdictOf}
 use Rattle.mencius_judge.specs.VerdictLines.{broken_line, kept_line}
 use Rattle.mencius_app.specs.Tasks.{Task}
 

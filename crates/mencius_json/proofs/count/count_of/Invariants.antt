@@ -1,6 +1,6 @@
 use Rattle.std.proofs.Common.{◌≡◌, ◌≤◌, ◌+◌, ◌==◌, length}
 use Rattle.std.specs.List.{filter}
-use Rattle.mencius_json.proofs.counting.count_of.Given as goal
+use Rattle.mencius_json.proofs.count.count_of.Given as goal
 
 abbrev pub invariant-parts : goal.invariant-parts
 invariant-parts l = record {

@@ -4,7 +4,7 @@ use Rattle.mencius_base.specs.Plan.{PlanState}
 use Rattle.mencius_board.specs.Boards.{BoardState}
 use Rattle.mencius_board.specs.declared.fault.BoardFault.{BoardFault}
 use Rattle.mencius_board.specs.Runs.{HasFailed, HasStopped}
-use Rattle.mencius_board.proofs.running.run_job.Goals as goal
+use Rattle.mencius_board.proofs.run.run_job.Goals as goal
 
 stopped : (plan : PlanState) (old new : BoardState) (answer : Result (Unit {0}) BoardFault)
     → IfErr answer (HasFailed plan old new) → IfErr answer (HasStopped plan old new)

@@ -2,7 +2,7 @@ use Rattle.std.proofs.Common.{subst}
 use Rattle.mencius_board.specs.Boards.{BoardState}
 use Rattle.mencius_board.specs.Runs.{IsRun}
 use Rattle.mencius_board.proofs.runs.RunSteps.{begun}
-use Rattle.mencius_board.proofs.running.Run.new.Goals as goal
+use Rattle.mencius_board.proofs.run.Run.new.Goals as goal
 
 pub invariant_of-result : goal.invariant_of-result
 invariant_of-result g c =

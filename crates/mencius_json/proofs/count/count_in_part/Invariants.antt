@@ -1,6 +1,6 @@
 use Rattle.std.proofs.Common.{◌≡◌, ◌==◌, ◌≤◌, length, take}
 use Rattle.std.specs.List.{filter}
-use Rattle.mencius_json.proofs.counting.count_in_part.Given as goal
+use Rattle.mencius_json.proofs.count.count_in_part.Given as goal
 
 abbrev pub invariant-bytes : goal.invariant-bytes
 invariant-bytes l =

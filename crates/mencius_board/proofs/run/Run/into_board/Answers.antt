@@ -1,7 +1,7 @@
 use Rattle.std.proofs.Common.{◌∙◌, ap, sym}
 use Rattle.mencius_board.specs.Runs.{first_end}
 use Rattle.mencius_board.proofs.runs.RunSteps.{ended}
-use Rattle.mencius_board.proofs.running.Run.into_board.Goals as goal
+use Rattle.mencius_board.proofs.run.Run.into_board.Goals as goal
 
 pub returns-in-Some-clause-ran : goal.returns-in-Some-clause-ran
 returns-in-Some-clause-ran g c =

@@ -2,7 +2,7 @@ use Rattle.std.proofs.Common.{◌≡◌, ◌<◌, ◌+◌, ◌∙◌, Ok, Err, a
 use Rattle.mencius_board.specs.Runs.{way_after}
 use Rattle.mencius_board.specs.Turns.{TakesTurn, is_to_show}
 use Rattle.mencius_board.proofs.runs.RunSteps.{turn_is_run, turned}
-use Rattle.mencius_board.proofs.running.Run.advance.Goals as goal
+use Rattle.mencius_board.proofs.run.Run.advance.Goals as goal
 
 pub invariant_of-self : goal.invariant_of-self
 invariant_of-self g c =

@@ -1,6 +1,6 @@
 use Rattle.std.proofs.Common.{◌==◌, arith, get_or}
 use Rattle.mencius_json.proofs.Counts.{next_within, one_more}
-use Rattle.mencius_json.proofs.counting.count_in_part.Goals as goal
+use Rattle.mencius_json.proofs.count.count_in_part.Goals as goal
 
 pub overflow_add-count : goal.overflow_add-count
 overflow_add-count c =

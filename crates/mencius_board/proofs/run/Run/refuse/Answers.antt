@@ -1,6 +1,6 @@
 use Rattle.std.proofs.Common.{◌≡◌, ◌<◌, subst, sym, ℕ}
 use Rattle.mencius_board.proofs.runs.RunSteps.{refused}
-use Rattle.mencius_board.proofs.running.Run.refuse.Goals as goal
+use Rattle.mencius_board.proofs.run.Run.refuse.Goals as goal
 
 pub invariant_of-self : goal.invariant_of-self
 invariant_of-self g c =
