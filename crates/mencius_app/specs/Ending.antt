@@ -1,6 +1,5 @@
 -- The end of a call of the program, with its exit status and its lines on standard error.
-use Rattle.std.specs.Prelude.{◌&&◌, ℕ, Bool, true, false, not, if◌then◌else◌, List, [], ◌∷◌, ◌++◌, Option, Some, None, option_map, codes, decimal, String, string_bytes, Result, Ok, Err}
-use Rattle.std.specs.Global.{Global}
+use Rattle.std.specs.Prelude.{◌&&◌, ℕ, Bool, not, if◌then◌else◌, List, [], ◌∷◌, ◌++◌, Option, Some, None, option_map, codes, decimal, string_bytes, Result, Ok, Err}
 use Rattle.mencius_io.specs.declared.failure.Failure.{Failure}
 use Rattle.mencius_app.specs.declared.fault.AppFault.{AppFault}
 use Rattle.mencius_app.specs.declared.fault.AppFault.TheVariants as app

@@ -1,6 +1,6 @@
 //! A call of the program, from its arguments to its ending.
 
-ghost use Rattle.std.specs.Prelude.{◌≡◌, ◌≢◌, ◌⊎◌, Some, IfErr, IfOk, IfSome, OnOk, Ok, Err, true, false};
+ghost use Rattle.std.specs.Prelude.{◌≡◌, ◌≢◌, ◌⊎◌, Ok, Err, true, false};
 ghost use Rattle.mencius_command_line.specs.CommandLine.{bytes_of, task_state};
 ghost use Rattle.mencius_app.specs.Calls.{AsksFor, Complains, IfEnded, IfRun, EndsCall, EndsTask, IsUnread, task_with};
 ghost use Rattle.mencius_app.specs.Tasks.{streams};

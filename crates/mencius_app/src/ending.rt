@@ -1,6 +1,6 @@
 //! The end of a call of the program, with its exit status and its lines on standard error.
 
-ghost use Rattle.std.specs.Prelude.{◌≡◌, ◌⊎◌, ◌++◌, OnOk, OnErr, codes, option_copied};
+ghost use Rattle.std.specs.Prelude.{◌≡◌, ◌++◌, OnOk, OnErr, codes, option_copied};
 ghost use Rattle.std.specs.Io.KnownBytes.{Appends};
 ghost use Rattle.mencius_io.specs.Streams.{HasFailed, WritesFront};
 ghost use Rattle.mencius_app.specs.Calls.{WritesOrFails};

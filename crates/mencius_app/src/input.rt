@@ -1,6 +1,6 @@
 //! Reads the scenario of a task.
 
-ghost use Rattle.std.specs.Prelude.{◌≡◌, IfErr, IfOk, OnOk};
+ghost use Rattle.std.specs.Prelude.{IfErr, IfOk, OnOk};
 ghost use Rattle.std.specs.Io.KnownBytes.{IsAtEnd};
 ghost use Rattle.mencius_app.specs.Failures.{ExplainsAs, FailsReading};
 ghost use Rattle.mencius_app.specs.Input.{HasFault, Says, unless_long};

@@ -1,6 +1,6 @@
 //! The `Answer` that a host gets after a call.
 
-ghost use Rattle.std.specs.Prelude.{◌≡◌, [], false, MatchResult};
+ghost use Rattle.std.specs.Prelude.{[], false, MatchResult};
 ghost use Rattle.mencius_exports.specs.Calls.{IsPut, Tells, memory_status};
 
 use crate::call::Called;

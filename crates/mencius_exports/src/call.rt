@@ -1,7 +1,6 @@
 //! A call of the program over bytes in memory.
 
-ghost use Rattle.std.specs.Prelude.{◌≡◌, ◌++◌, [], IfOk, false, true, take, drop, map};
-ghost use Rattle.std.specs.Io.KnownBytes.{Appends};
+ghost use Rattle.std.specs.Prelude.{◌≡◌, ◌++◌, [], IfOk, false, true, map};
 ghost use Rattle.mencius_app.specs.Ending.{lines_of_ending, status_of_ending};
 ghost use Rattle.mencius_exports.specs.Calls.{IsCall, IsStateCall, ending_of_state, memory_status, words_in};
 

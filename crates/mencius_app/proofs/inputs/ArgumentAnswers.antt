@@ -1,5 +1,5 @@
 -- A call whose arguments do not request a task ends as the definitions say.
-use Rattle.std.proofs.Common.{◌≡◌, ◌≢◌, ◌⊎◌, ◌≤◌, ◌+◌, ◌∙◌, arith, [], inl, inr, ℕ, true, false, List, Option, Some, None, IfSome, String, Global, string_bytes, refl, sym, subst, ap}
+use Rattle.std.proofs.Common.{◌≡◌, ◌≢◌, ◌⊎◌, ◌≤◌, ◌+◌, ◌∙◌, arith, [], inl, inr, ℕ, true, false, List, Option, Some, None, IfSome, String, Global, string_bytes, refl, sym, subst}
 use Rattle.std.specs.Io.KnownBytes.{Appends, Keeps}
 use Rattle.clap.specs.Words.{IsAmong, Text}
 use Rattle.clap.specs.declared.error.kind.ErrorKind.{ErrorKind}

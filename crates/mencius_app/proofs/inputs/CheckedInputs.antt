@@ -1,5 +1,5 @@
 -- A check finds the kind of a scenario, and its result or fault is right for this kind.
-use Rattle.std.proofs.Common.{◌≡◌, ◌≢◌, ◌≤◌, ◌⊎◌, inl, inr, ℕ, List, length, Option, Some, None, IfSome, IfOk, IfErr, Result, Ok, Err, String, Global, string_bytes, ap, sym, subst, ◌∙◌}
+use Rattle.std.proofs.Common.{◌≡◌, ◌≢◌, ◌≤◌, ◌⊎◌, inl, inr, ℕ, List, length, Option, Some, None, IfSome, Result, Ok, Err, String, Global, string_bytes, ap, sym, subst, ◌∙◌}
 use Rattle.mencius_io.specs.declared.fault.IoFault.{IoFault}
 use Rattle.mencius_io.specs.declared.fault.IoFault.TheVariants.{BadShape, NoMemory}
 use Rattle.mencius_io.specs.Streams.{most_bytes}
@@ -10,8 +10,6 @@ use Rattle.mencius_input.specs.Kinds.{kind_in}
 use Rattle.mencius_input.specs.Explanations.{Explains}
 use Rattle.mencius_input.specs.Plan.{plan}
 use Rattle.mencius_input.specs.Scenario.{scenario}
-use Rattle.mencius_io.specs.Streams.{StreamState}
-use Rattle.mencius_io.specs.declared.failure.Failure.{Failure}
 use Rattle.mencius_app.specs.Check.{EitherScenario, IsCheckOf, as_replay, as_run, either_scenario, ok_line, replay_scenario, run_scenario, scenario_of_kind}
 use Rattle.mencius_app.specs.Input.{unless_long}
 use Rattle.mencius_app.proofs.inputs.Inputs.{IsBadInput, failing, flipped, plan_bad, says_by_bytes, scenario_bad}

@@ -14,7 +14,7 @@ use Rattle.mencius_input.specs.Explanations.{ExplainsUnread}
 use Rattle.mencius_input.specs.Plan.{plan, plan_read, is_plan_within, run_names}
 use Rattle.mencius_input.specs.Scenario.{is_within_limits, json_of, scenario, scenario_of, is_scenario_within, written_of}
 use Rattle.mencius_input.specs.declared.kind.Kind.{Kind}
-use Rattle.mencius_app.specs.Failures.{ExplainsAs, ExplainsByFields, ExplainsIn, Explanation, FailsReading, IsExplained}
+use Rattle.mencius_app.specs.Failures.{ExplainsAs, ExplainsByFields, ExplainsIn, Explanation, FailsReading}
 use Rattle.mencius_app.specs.Input.{HasFault, Says, unless_long}
 use Rattle.mencius_app.specs.Tasks.{IsReadingCause}
 

@@ -7,12 +7,12 @@ use Rattle.mencius_io.specs.Streams.{StreamState, TakesAtMost, most_bytes, most_
 use Rattle.mencius_io.specs.declared.failure.Failure.{Failure}
 use Rattle.mencius_io.specs.declared.fault.IoFault.{IoFault}
 use Rattle.mencius_io.specs.declared.fault.IoFault.TheVariants.{WriteFailed}
-use Rattle.mencius_command_line.specs.CommandLine.{TaskState, are_texts, asked_check, asked_draw, asked_judge, asked_replay, asked_run, asked_trace, faults, line_of, task_in}
-use Rattle.mencius_app.specs.Calls.{AsksAs, AsksFor, Did, DidTask, EndsCall, EndsTask, IfEnded, IfRun, IsUnread, call_task, explanation_of, is_reporting, is_run, task_of}
+use Rattle.mencius_command_line.specs.CommandLine.{TaskState, asked_check, asked_draw, asked_judge, asked_replay, asked_run, asked_trace, faults, line_of, task_in}
+use Rattle.mencius_app.specs.Calls.{AsksAs, AsksFor, DidTask, EndsCall, EndsTask, IfEnded, IfRun, IsUnread, call_task, explanation_of, is_reporting, is_run, task_of}
 use Rattle.mencius_app.specs.Ending.{ending_of, ending_of_run, failure_in}
-use Rattle.mencius_app.specs.Failures.{ExplainsIn, Explanation, Fails, FailsReading, IsExplained}
+use Rattle.mencius_app.specs.Failures.{ExplainsIn, Explanation, Fails, FailsReading}
 use Rattle.mencius_app.specs.RunFailures.{UnlessBoard}
-use Rattle.mencius_app.specs.Tasks.{AsksLittle, AsksReader, Delivers, IsCause, IsOutput, IsReadingCause, Streams, Task, Writes, streams}
+use Rattle.mencius_app.specs.Tasks.{AsksReader, Delivers, IsCause, IsOutput, Streams, Task, Writes, streams}
 use Rattle.mencius_app.specs.declared.call.Begun.{Begun}
 use Rattle.mencius_app.specs.declared.call.Begun.TheVariants.{Ended, Run}
 use Rattle.mencius_app.specs.declared.call.RunOptions.{RunOptions}

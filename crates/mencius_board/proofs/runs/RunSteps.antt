@@ -1,7 +1,7 @@
 -- The invariant of a run holds before the first turn and after each turn, and gives the result at the end.
 use Rattle.std.specs.Prelude.{slice_get, IfErr, OnOk, if◌then◌else◌}
 use Rattle.std.specs.Result.{is_ok}
-use Rattle.std.proofs.Common.{◌≡◌, ◌≢◌, ℕ, zero, suc, ◌+◌, ◌<◌, ◌≤◌, ◌==◌, Bool, true, false, List, [], ◌∷◌, ◌++◌, Some, None, Result, Ok, Err, length, map, replicate, set, get_or, refl, sym, ◌∙◌, ap, subst, arith, ⊎_elim, inl, inr}
+use Rattle.std.proofs.Common.{◌≡◌, ◌≢◌, ℕ, zero, suc, ◌<◌, ◌≤◌, ◌==◌, Bool, true, false, List, [], ◌∷◌, Some, None, Result, Ok, Err, length, map, replicate, set, get_or, refl, sym, ◌∙◌, ap, subst, arith, ⊎_elim, inl, inr}
 use Rattle.std.proofs.lemmas.Bool.{cases_eq, cases_lt}
 use Rattle.std.proofs.lemmas.Bool.Decides.{nat_tests}
 use Rattle.std.proofs.lemmas.List.{get_or-replicate, get_or-set_other, get_or_default, get_or_past, length-map, length-replicate, length-set}

@@ -1,4 +1,4 @@
-use Rattle.std.proofs.Common.{◌∙◌, inl, inr, subst}
+use Rattle.std.proofs.Common.{subst}
 use Rattle.mencius_command_line.specs.CommandLine.{bytes_of}
 use Rattle.mencius_app.specs.Calls.{EndsCall, task_with}
 use Rattle.mencius_app.specs.Tasks.{streams}
