@@ -1,8 +1,8 @@
-//! What board_readers.rt.in does, in plain Rust and under a lock: the yardstick of bench/readers.
+//! Does the work of board_readers.rt.in in plain Rust and under a lock. bench/readers compares both programs.
 //!
-//! The only word is `rwlock` or `mutex`, the lock of one map that the writer changes and the readers look in. Standard
-//! input and what is printed are those of the other program. There is no cluster: the writer adds a command to a list,
-//! copies the list as a show does, and changes the map.
+//! The only argument is `rwlock` or `mutex`, the lock of one map that the writer changes and the readers read. The
+//! standard input and the output are as in board_readers.rt.in. There is no cluster. The writer adds a command to a
+//! list, copies the list as a show does, and changes the map.
 
 use std::collections::BTreeMap;
 use std::hint::black_box;
@@ -53,7 +53,7 @@ struct Command {
     text: String,
 }
 
-/// What a thread looked up. No two share a cache line.
+/// The lookups of a thread. No two seats share a cache line.
 #[derive(Default)]
 #[repr(align(128))]
 struct Seat {
@@ -94,7 +94,7 @@ fn show<S: Shared>(shared: &S, list: &mut Vec<Command>, number: u32) {
     shared.set(command.key, command.text);
 }
 
-/// Adds commands, with a copy of the list for each of the last ones. It answers how long these took.
+/// Adds LAP commands, and copies the list for each of the last SHOWS. Returns the time for these.
 fn lap<S: Shared>(shared: &S, list: &mut Vec<Command>, first: u32) -> Duration {
     for number in first..first + LAP - SHOWS {
         show(shared, list, number);
@@ -149,6 +149,6 @@ fn main() {
     match std::env::args().nth(1).as_deref() {
         Some("rwlock") => measure(&RwLock::new(Texts::new()), readers),
         Some("mutex") => measure(&Mutex::new(Texts::new()), readers),
-        _ => panic!("the word is rwlock or mutex"),
+        _ => panic!("the argument must be rwlock or mutex"),
     }
 }

@@ -1,5 +1,5 @@
-"""The browsers in which the page is tried: Chromium by selenium, and Firefox by its own protocol, Marionette, since
-Debian has no geckodriver. Both have the same calls, and see the page as a user does: clicks, keys, texts."""
+"""The browsers that open the page. Chromium is driven by selenium. Firefox is driven by its own protocol, Marionette,
+because Debian does not have geckodriver. Both classes have the same calls for clicks, keys and texts."""
 import base64
 import json
 import os
@@ -12,7 +12,7 @@ import time
 
 from shared import fail
 
-# Keys by the names that WebDriver has for them.
+# The WebDriver codes of keys, by the names of the keys.
 KEYS = {"Enter": "\ue007", "Control": "\ue009", "Escape": "\ue00c", "End": "\ue010", "Home": "\ue011", "Left": "\ue012",
         "Right": "\ue014", "Delete": "\ue017", "Tab": "\ue004", "PageUp": "\ue00e"}
 SECONDS = 30
@@ -20,23 +20,23 @@ ELEMENT = "element-6066-11e4-a52e-4f735466cecf"
 
 
 class Browser:
-    """What both can do by a script in the page."""
+    """The calls that both browsers perform by a script in the page."""
 
     def wait(self, script, what):
-        """Waits until a script gives something true, and answers that."""
+        """Waits until a script returns a true value, and returns that value."""
         end = time.time() + SECONDS
         while time.time() < end:
             found = self.run(script)
             if found:
                 return found
             time.sleep(0.05)
-        return fail(f"{self.name}: {what} does not come")
+        return fail(f"{self.name}: this does not appear within {SECONDS} s: {what}")
 
     def text(self, selector):
         return self.run(f"return document.querySelector({json.dumps(selector)})?.textContent ?? null")
 
     def write(self, selector, text):
-        """Puts a text in the place of that of a field, as typing does."""
+        """Replaces the text of a field, as typing does."""
         self.run(f"const field = document.querySelector({json.dumps(selector)}); field.focus();"
                  f"field.value = {json.dumps(text)};"
                  "field.dispatchEvent(new Event('input', { bubbles: true }))")
@@ -54,7 +54,7 @@ class Browser:
 # ---- Chromium
 
 def lacking_for_chromium():
-    """The packages of Debian that are not there."""
+    """The missing packages of Debian."""
     tools = (("chromium", "chromium"), ("chromium-driver", "chromedriver"))
     found = [package for package, tool in tools if not shutil.which(tool)]
     return found + ([] if has_selenium() else ["python3-selenium"])
@@ -69,7 +69,7 @@ def has_selenium():
 
 
 def with_selenium():
-    """Starts this script anew by the system's Python where that alone has selenium."""
+    """Starts this script again with the system's Python if only that Python has selenium."""
     system = "/usr/bin/python3"
     if has_selenium() or not os.path.exists(system) or os.environ.get("MENCIUS_PYTHON"):
         return
@@ -116,18 +116,18 @@ class Chromium(Browser):
         actions.perform()
 
     def lines(self):
-        """What stands on the console."""
+        """The lines on the console."""
         return [line["message"] for line in self.driver.get_log("browser")]
 
     def requests(self):
-        """The addresses that the page asked for, besides its own file and what it made itself."""
+        """The addresses that the page requested, except its own file and its own objects."""
         messages = [json.loads(line["message"])["message"] for line in self.driver.get_log("performance")]
         asked = [message["params"] for message in messages if message["method"] == "Network.requestWillBeSent"]
         urls = [row["request"]["url"] for row in asked if row["documentURL"].startswith("file:")]
         return [url for url in urls if not url.startswith(("file:", "data:", "blob:"))]
 
     def own_time(self, script):
-        """The milliseconds of processor time that a script, styles and layout take of the page's thread."""
+        """The processor time in milliseconds that the thread of the page needs for a script, styles and layout."""
         parts = ("ScriptDuration", "LayoutDuration", "RecalcStyleDuration")
 
         def used():

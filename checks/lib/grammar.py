@@ -1,7 +1,7 @@
-"""What a scenario is, as the program says it: its fields, and the texts of events and commands in each version.
+"""The grammar of scenarios as the program reports it: the fields, and the texts of events and commands in each version.
 
-All of it is asked: a check of a scenario that has a fault names what there is in place of it. What the words say is
-then tried, so that they have to be right. Where the words are others than are looked for here, that is a failure.
+This module learns all of it from `mencius check`, whose messages about a bad scenario name the right fields and words.
+Then it tries each range and text, so the messages must be true. It fails if a message has unexpected words.
 """
 import json
 import re
@@ -9,15 +9,15 @@ from typing import NamedTuple
 
 from shared import fail, start
 
-# So great is not a number of a scenario.
+# A number above the range of every field.
 TOO_GREAT = 10 ** 30
-# So long is no name.
+# The length of a name that is too long for every key and text.
 TOO_LONG = 10_000
 TASKS = ("replay", "run")
-# What is written in the place of a field that no scenario has, and of a word.
+# A name that is not a field, and a word that no text has.
 NOTHING = "nothing"
 
-# The parts of texts, by the names that a check has for them: what pages write in their place, and one of them.
+# The parts of texts, by their names in the messages of `check`. Each has the signs that pages use, and an example.
 PARTS = {
     "the server": (("S", "D", "P"), "0"),
     "the suspected server": (("Q",), "0"),
@@ -26,13 +26,13 @@ PARTS = {
     "the key": (("KEY",), "k"),
     "the text": (("TEXT",), "x"),
 }
-# A text with a name of its own. Pages write that name: OLD is the old text.
+# A text with a name of its own. Pages use that name as the sign. For example, OLD is the old text.
 NAMED_TEXT = "the ([a-z]+) text"
 LETTERS = "that is no ASCII letter, digit, `_`, `-` or `.`"
 
 
 class Field(NamedTuple):
-    """A field of a scenario. A list has no range."""
+    """A field of a scenario. A list does not have a range."""
     name: str
     is_needed: bool
     is_list: bool
@@ -40,18 +40,18 @@ class Field(NamedTuple):
     greatest: int = 0
 
     def range(self, separator=""):
-        """The range as pages write it."""
+        """The range in the notation of pages."""
         word = "or" if self.greatest == self.least + 1 else "to"
         return f"{self.least} {word} {self.greatest:,}".replace(",", separator)
 
 
 class Form(NamedTuple):
-    """A text: its words and the names of its parts, in their order, and the first version that has it."""
+    """A text: its words and the names of its parts in order, and the first version that has the text."""
     words: tuple
     version: int
 
     def is_written(self, text):
-        """Whether a page writes it so: the words as they are, and for each part what stands for it."""
+        """Whether this is the notation of pages for the text, with the words of the text and a sign for each part."""
         words = text.split(" ")
         return len(words) == len(self.words) and all(
             word in PARTS[known][0] if known in PARTS else word == known for word, known in zip(words, self.words))
@@ -61,14 +61,14 @@ class Form(NamedTuple):
 
 
 class Kind(NamedTuple):
-    """What a part is: a number or two with a dot between, of a range, or a name, whose length is of one."""
+    """The kind of a part: a number, an ID of two numbers, or a name, with the range of the numbers or of the length."""
     shape: str
     least: int
     greatest: int
 
 
 class Grammar(NamedTuple):
-    """For each task: the fields of its scenario by their names, the forms of its texts, and the parts of these."""
+    """For each task: the fields of its scenario by name, the forms of its texts, and the kinds of their parts."""
     fields: dict
     forms: dict
     kinds: dict
@@ -77,63 +77,64 @@ class Grammar(NamedTuple):
 # ---- asking
 
 def words_of_check(program, scenario):
-    """The words of a check of a scenario, or None where it is one."""
+    """The message of `check` about a bad scenario, or None for a good one."""
     ended = start([program, "check"], json.dumps(scenario))
     if ended.status == 0:
         return None
     lines = ended.said.splitlines()
     if ended.status != 3 or len(lines) != 2:
-        fail(f"a check ends with status {ended.status} and says {ended.said!r} of {json.dumps(scenario)}")
+        fail(f"check ends with status {ended.status} and prints {ended.said!r} for {json.dumps(scenario)}")
     return lines[1]
 
 
 def answer(program, scenario, pattern):
-    """The groups of a pattern that the words of a check have to be."""
+    """The groups of a pattern. The message of `check` must match the pattern."""
     words = words_of_check(program, scenario)
     found = re.fullmatch(pattern, words or "")
     if not found:
-        fail(f"a check of {json.dumps(scenario)} says {words!r}, where {pattern!r} is looked for")
+        fail(f"the message of check for {json.dumps(scenario)} is {words!r}, which does not match {pattern!r}")
     return found.groups()
 
 
 def items_of(words):
-    """The items of a list that is written as `a, b and c` or `a, b or c`."""
+    """The items of a list such as `a, b and c` or `a, b or c`."""
     return re.split(", | and | or ", words)
 
 
 # ---- fields
 
 def fields_of(program, task):
-    # A field that only a run has tells the tasks apart.
+    # Only runs have the field `loss`, so it distinguishes the two tasks.
     mark = {"loss": 0} if task == "run" else {}
     names, = answer(program, {**mark, NOTHING: 0}, f'"{NOTHING}" is no field: a scenario of {task} has (.*)')
     drafts = [field_of(program, mark, name) for name in items_of(names)]
     good = {field.name: good_value(field) for field in drafts}
     if words_of_check(program, good) is not None:
-        fail(f"the least numbers of all fields make no scenario of {task}: {words_of_check(program, good)}")
+        fail(f"the lowest numbers of all fields do not form a scenario of {task}: {words_of_check(program, good)}")
     for field in drafts:
         try_range(program, good, field)
     return {field.name: field._replace(is_needed=is_needed(program, good, field.name)) for field in drafts}
 
 
 def field_of(program, mark, name):
-    kind, = answer(program, {**mark, name: True}, f'the field "{name}" is no (list|whole number)')
+    kind, = answer(program, {**mark, name: True}, f'the field "{name}" is not a (list|whole number)')
     if kind == "list":
         return Field(name, True, True)
     words = answer(program, {**mark, name: TOO_GREAT}, f'the field "{name}" is not ([0-9]+) (or|to) ([0-9]+)')
     field = Field(name, True, False, int(words[0]), int(words[2]))
     if field.range().split(" ")[1] != words[1]:
-        fail(f"the range of {name} is said to be {' '.join(words)}")
+        fail(f"check gives {name} the range {' '.join(words)}")
     return field
 
 
 def good_value(field):
-    """A list for the one server, of a run, or no event."""
+    """A good value: for `commands` an empty list for one server, for `events` no event, for a number the lowest."""
     return ([[]] if field.name == "commands" else []) if field.is_list else field.least
 
 
 def try_range(program, good, field):
-    """The ends of a range are in it, but for the servers of a run, which have a list each; what is past it is not."""
+    """Tries the ends of a range and the numbers outside. Each server of a run needs a list, so the greatest number of
+    servers gets as many lists."""
     if field.is_list:
         return
     lists = {"commands": [[]] * field.greatest} if field.name == "servers" and "commands" in good else {}
@@ -141,13 +142,13 @@ def try_range(program, good, field):
         fail(f"{field.greatest} is refused as {field.name}")
     for number in (field.least - 1, field.greatest + 1):
         if words_of_check(program, {**good, field.name: number}) is None:
-            fail(f"{number} is taken as {field.name}")
+            fail(f"{number} is accepted as {field.name}")
 
 
 def is_needed(program, good, name):
     words = words_of_check(program, {other: value for other, value in good.items() if other != name})
     if words not in (None, f'the field "{name}" is missing'):
-        fail(f"a scenario without {name} is said to be wrong in another way: {words}")
+        fail(f"check has an unexpected message for a scenario without {name}: {words}")
     return words is not None
 
 
@@ -160,15 +161,15 @@ def scenario_of(task, version, text):
 
 
 def fault(program, task, version, text):
-    """What is said of a text, without its place, or None where it is one."""
+    """The message about a bad text, without its place, or None for a good text."""
     words = words_of_check(program, scenario_of(task, version, text))
     if words is None:
         return None
     place = "event 0" if task == "replay" else "command 0 of list 0"
-    # A long text is shown cut off.
+    # The message shows only the beginning of a long text.
     found = re.fullmatch(re.escape(place) + ' ".*?"(?:\\.\\.)?: (.*)', words)
     if not found:
-        fail(f"a check says {words!r} of {text!r}")
+        fail(f"check prints {words!r} for {text!r}")
     return found.group(1)
 
 
@@ -178,15 +179,15 @@ def forms_of(program, task, versions):
     for words in forms_behind(program, task, newest, ()):
         having = [version for version in versions if fault(program, task, version, sample(words)) is None]
         if having != [version for version in versions if version >= min(having)]:
-            fail(f"{sample(words)!r} is in the versions {having}")
+            fail(f"only the versions {having} have {sample(words)!r}")
         if fault(program, task, newest, sample(words) + " x") is None:
-            fail(f"{sample(words)!r} may have a word more")
+            fail(f"{sample(words)!r} may have another word")
         forms.append(Form(words, min(having)))
     return forms
 
 
 def forms_behind(program, task, version, words):
-    """The texts that begin with these words: the check says which word is missing, or which ones there are."""
+    """The texts that begin with these words. `check` names the missing part, or the words that may follow."""
     said = fault(program, task, version, sample(words)) if words else "it is empty" if task == "replay" else \
         fault(program, task, version, "")
     if said is None:
@@ -196,12 +197,12 @@ def forms_behind(program, task, version, words):
                 for form in forms_behind(program, task, version, (*words, word))]
     missing = re.fullmatch("(.*?) is missing(: an empty one has a space before it)?", said)
     if not missing or not is_part(missing.group(1)):
-        fail(f"{sample(words)!r} lacks something that is not known here: {said}")
+        fail(f"{sample(words)!r} lacks a part that this module does not know: {said}")
     return forms_behind(program, task, version, (*words, missing.group(1)))
 
 
 def is_part(name):
-    """Whether a part has this name. That of a text with a name of its own is noted when it is met."""
+    """Whether a part has this name. For a text with a name of its own, adds the part to PARTS."""
     named = re.fullmatch(NAMED_TEXT, name)
     if named:
         PARTS[name] = ((named.group(1).upper(),), PARTS["the text"][1])
@@ -209,12 +210,12 @@ def is_part(name):
 
 
 def choices(program, task, version, words):
-    """The words that may stand behind these."""
+    """The words that may follow these words."""
     said = fault(program, task, version, sample((*words, NOTHING)))
     found = re.fullmatch(f'no event begins with "{NOTHING}": each begins with (.*)', said or "") \
-        or re.fullmatch(f'the operation is none of (.*): "{NOTHING}"', said or "")
+        or re.fullmatch(f'the operation is not (.*): "{NOTHING}"', said or "")
     if not found:
-        fail(f"{sample((*words, NOTHING))!r} is said to be wrong in another way: {said}")
+        fail(f"check has an unexpected message for {sample((*words, NOTHING))!r}: {said}")
     return items_of(found.group(1))
 
 
@@ -225,19 +226,19 @@ def sample(words):
 # ---- parts
 
 def kinds_of(program, task, newest, forms):
-    """What each part of the texts is, which is the same wherever it stands."""
+    """The kind of each part. A part must have the same kind in all texts."""
     kinds = {}
     for form in forms:
         for place, part in enumerate(form.words):
             if part in PARTS:
                 kind = kind_of(Place(program, task, newest, form.words, place))
                 if kinds.setdefault(part, kind) != kind:
-                    fail(f"in {form}, {part} is {kind}, and elsewhere {kinds[part]}")
+                    fail(f"in {form}, {part} is {kind}, but in another text it is {kinds[part]}")
     return kinds
 
 
 class Place(NamedTuple):
-    """A part of a text, which is asked about."""
+    """A part of a text, to try values for it."""
     program: str
     task: str
     version: int
@@ -245,7 +246,7 @@ class Place(NamedTuple):
     place: int
 
     def fault(self, value):
-        """What is said of the text with this in its place, or None where it is one."""
+        """The message about the text with this value as the part, or None if the text is good."""
         before, behind = sample(self.words[:self.place]), sample(self.words[self.place + 1:])
         text = " ".join([*[before] * (self.place > 0), value, *[behind] * (self.place + 1 < len(self.words))])
         return fault(self.program, self.task, self.version, text)
@@ -266,23 +267,23 @@ def kind_of(place):
     least = 1 if long else 0
     long = long or place.find(".* has more than ([0-9]+) bytes", "k" * TOO_LONG)
     if not long or not place.find(f".* has a byte {re.escape(LETTERS)}", "!"):
-        fail(f"it is not said which bytes and how many may be the part {place.place} of {sample(place.words)!r}")
+        fail(f"check does not name the bytes and the length of part {place.place} of {sample(place.words)!r}")
     return with_ends_tried(place, Kind("name", least, int(long.group(1))), lambda length: "k" * length)
 
 
 def with_ends_tried(place, kind, written):
-    """The kind, of which the ends are taken, and what is past them is not."""
+    """Tries the ends of the range of a kind, and the numbers outside. Returns the kind."""
     for number in (kind.least, kind.greatest):
         if place.fault(written(number)) is not None:
             fail(f"{written(number)!r} is refused in {sample(place.words)!r}: {place.fault(written(number))}")
     for number in (kind.least - 1, kind.greatest + 1):
         if number >= 0 and place.fault(written(number)) is None:
-            fail(f"{written(number)!r} is taken in {sample(place.words)!r}")
+            fail(f"{written(number)!r} is accepted in {sample(place.words)!r}")
     return kind
 
 
 def ask(program):
-    """The program's grammar."""
+    """The grammar that the program reports."""
     fields = {task: fields_of(program, task) for task in TASKS}
     forms, kinds = {}, {}
     for task in TASKS:

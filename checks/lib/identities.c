@@ -1,11 +1,12 @@
-/* Prints identities of commands for which a map with room for 4,096 of them begins to search at one place, one
- * CLIENT.NUMBER a line. The hash of an identity begins with a salt:
+/* Prints COUNT identities of commands, one CLIENT.NUMBER per line. A map with room for 4,096 of them begins its search
+ * for each of them at the same place. The hash of an identity begins with a salt:
  *
  *     identities 0 COUNT      the salt 0
- *     identities 1 COUNT      the salt that comes of 0 and no command
+ *     identities 1 COUNT      the salt that results from 0 and no command
  *
- * The hash is SipHash-1-3 with the keys 0, of two words: the salt, and the identity. Of its two halves, joined by xor,
- * the map asks nine bits for a place, and eight more before it compares an identity at all. */
+ * The hash is SipHash-1-3 with the keys 0. It hashes two words, the salt and the identity. The map joins the two halves
+ * of the hash by xor. It uses nine bits of the result for the place, and compares eight more bits before it compares
+ * identities. */
 #include <inttypes.h>
 #include <stdio.h>
 #include <stdlib.h>
@@ -42,7 +43,7 @@ static State after(State s, uint64_t word)
     return s;
 }
 
-/* The hash of what a state has taken in, so many words. */
+/* The hash of a state that has taken in `count` words. */
 static uint64_t hash(State s, uint64_t count)
 {
     s = after(s, count * 8 << 56);
@@ -51,7 +52,7 @@ static uint64_t hash(State s, uint64_t count)
     return s.a ^ s.b ^ s.c ^ s.d;
 }
 
-/* What the map asks of an identity's hash. */
+/* The bits of an identity's hash that the map uses. */
 static uint32_t place(State salted, uint64_t identity)
 {
     uint64_t whole = hash(after(salted, identity), 2);

@@ -1,4 +1,4 @@
-"""A validator of JSON, for the words that the schemas of docs/ use."""
+"""A validator of JSON. It supports the keywords in the schemas of docs/."""
 import re
 
 
@@ -15,14 +15,14 @@ TYPES = {
 
 
 def matches(pattern, text):
-    # The end of a pattern is the text's end in JSON Schema, and also before a last line feed in Python.
+    # In JSON Schema, `$` matches only at the end of the text. In Python, it also matches before a final line feed.
     if not (pattern.startswith("^") and pattern.endswith("$")):
         raise ValueError(pattern)
     return re.fullmatch("(?:" + pattern[1:-1] + ")", text, re.ASCII) is not None
 
 
 def passes(schema, value, top):
-    """Whether a schema passes a value."""
+    """Whether a schema accepts a value."""
     known = {"$schema", "title", "description", "$defs", "$ref", "type", "const", "minimum", "maximum", "pattern",
              "anyOf", "allOf", "if", "then", "else", "properties", "required", "additionalProperties", "items",
              "minItems", "maxItems"}

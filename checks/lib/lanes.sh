@@ -1,5 +1,5 @@
 #!/bin/sh
-# Prints how many crates are proved side by side: one a processor, up to four, where there are 3 GB of memory for each.
+# Prints the number of crates to prove at the same time: one per processor, but at most four, with 3 GB of memory each.
 set -eu
 
 awk -v most="$(getconf _NPROCESSORS_ONLN 2>/dev/null || echo 1)" '

@@ -1,4 +1,4 @@
-"""Pages of text: which there are in the repository, their fenced blocks, and the text around these."""
+"""The pages of the repository, their fenced blocks, and the text around these blocks."""
 import os
 import re
 from typing import NamedTuple
@@ -9,14 +9,14 @@ FENCE = re.compile(r"^( *)```([^`]*)$")
 
 
 class Block(NamedTuple):
-    """A fenced block: the line of its first fence, from 1, the words behind that, and its text."""
+    """A fenced block: the line of its first fence, counted from 1, the words after the fence, and the text."""
     line: int
     words: tuple
     text: str
 
 
 def pages():
-    """The paths of all pages below the top of the repository, README.md first. What a build makes is none of it."""
+    """The paths of all pages of the repository, README.md first, without the output of builds."""
     found = []
     for folder, folders, files in os.walk(TOP):
         folders[:] = sorted(name for name in folders if name != "out" and not name.startswith("."))
@@ -30,12 +30,12 @@ def read(page):
 
 
 def blocks(text):
-    """The fenced blocks of a page. One that is not closed ends with the page."""
+    """The fenced blocks of a page. A block that is not closed ends with the page."""
     return split(text)[0]
 
 
 def outside(text):
-    """A page with spaces in the place of its fenced blocks, so that all else keeps its place."""
+    """A page with spaces in place of its fenced blocks, so that all other text keeps its place."""
     return split(text)[1]
 
 

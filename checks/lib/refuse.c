@@ -1,12 +1,12 @@
-/* Refuses one growth of memory of the program that it is loaded into: the one of the number, from 1, REFUSED_GROWTH.
+/* Refuses one request for memory (growth) of the program that loads it. REFUSED_GROWTH is its number, counted from 1.
  *
  *     cc -shared -fPIC -O2 -o refuse.so refuse.c -ldl
  *     LD_PRELOAD=./refuse.so REFUSED_GROWTH=7 REFUSED_NOTE=note PROGRAM
  *
- * Only what the program itself asks for is counted, not what the C library or the loader needs; with REFUSED_THREAD
- * only what that thread asks for, 0 the program's first one, 1 the first one that it starts, and so on. Once the growth
- * was refused, the file REFUSED_NOTE is there. It says how many threads the program had started by then, which thread
- * asked for the growth, and how many bytes were asked for.
+ * The number counts only requests of the program itself, without those of the C library and the loader. With
+ * REFUSED_THREAD, it counts only the requests of that thread. Thread 0 is the first thread of the program, thread 1 is
+ * the first thread that it starts, and so on. After the refusal, the file REFUSED_NOTE exists. It has the number of
+ * threads that the program had started before, the thread that requested the memory, and the requested bytes.
  */
 #define _GNU_SOURCE
 #include <dlfcn.h>
@@ -24,10 +24,10 @@
 extern void *__libc_malloc(size_t size);
 extern void *__libc_realloc(void *block, size_t size);
 
-/* More threads than that are not started. */
+/* The maximum number of threads. The library refuses to start more. */
 #define MOST_THREADS 64
 
-/* What a thread is to do. */
+/* The work of a thread. */
 struct work {
     void *(*start)(void *);
     void *argument;
@@ -42,7 +42,7 @@ static atomic_uint threads;
 static struct work works[MOST_THREADS];
 static _Thread_local unsigned own_thread;
 
-/* The first object that is told of is the program. */
+/* `dl_iterate_phdr` reports the program as the first object. */
 static int note_program(struct dl_phdr_info *object, size_t size, void *data)
 {
     (void)size;

@@ -1,4 +1,4 @@
-"""Scenarios for the checks: those of tests/, and some that are made here."""
+"""Scenarios for the checks: those of tests/, and some that this module builds."""
 import json
 import os
 import re
@@ -20,13 +20,13 @@ def read(*parts):
 
 
 def names(folder, ending):
-    """The names of the files of a folder of tests/ that end so, without that ending."""
+    """The names of the files with this ending in a folder of tests/, without the ending."""
     return [name[:-len(ending)] for name in sorted(os.listdir(os.path.join(TESTS, folder))) if name.endswith(ending)]
 
 
 def pages_of_help():
-    """The text of each page of help by its task, the program's own first, by "": tests/help.txt has them one after the
-    other, each behind the command line that asks for it."""
+    """The text of each page of help, by its task. The first page is that of the program, with the task "". In
+    tests/help.txt, each page follows the command line that prints it."""
     parts = re.split(r"^\$ mencius (?:(\w+) )?--help\n", read("help.txt"), flags=re.MULTILINE)[1:]
     return {task or "": page for task, page in zip(parts[::2], parts[1::2])}
 
@@ -52,5 +52,5 @@ def submissions(server, count):
 
 
 def long_skip():
-    """Server 2 submits so much that server 0 gives up 1,365 instances by one Skip, which server 1 hears."""
+    """Server 2 submits many commands. Server 0 gives up 1,365 instances in a single Skip, and server 1 hears it."""
     return submissions(2, 1365) + ["deliver 1364 0", "deliver 1365 1"]

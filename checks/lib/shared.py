@@ -1,7 +1,7 @@
-"""What several checks need: the programs that they are given, how these are started, and how a check fails.
+"""The common parts of the checks. They find and start the programs, compare texts, and report failures.
 
-A check is a script of checks/ that passes its work to `run`. Its name, its usage and its help come from the text at its
-top, whose line `    checks/NAME ..` says which words it takes.
+A check is a script of checks/ that passes its function to `run`. Its help is the text at its top. In that text, the
+line `    checks/NAME ..` is the usage.
 """
 import itertools
 import os
@@ -14,23 +14,23 @@ LIB = os.path.dirname(os.path.realpath(__file__))
 TOP = os.path.dirname(os.path.dirname(LIB))
 NAME = "checks/" + os.path.basename(sys.argv[0])
 
-# The built programs, as they lie below the top of the repository.
+# The paths of the built programs, relative to the top of the repository.
 PROGRAM = "crates/mencius/out/mencius"
 LAWS = "crates/test_laws/out/test_laws"
 MEMORY = "crates/test_memory/out/test_memory"
 
-# So long a program may take for one call, in seconds.
+# The most seconds for a call of a program.
 SECONDS = 120
-# So much of a long text is shown.
+# The number of characters of a long text that a message shows.
 SHOWN = 2000
 
 
 class Failure(Exception):
-    """Something is not as it should be."""
+    """A check has failed."""
 
 
 class Ended(NamedTuple):
-    """How a program ended: its status, as a shell has it, and what stands on its standard output and standard error."""
+    """The end of a program: its status as a shell reports it, its standard output and its standard error."""
     status: int
     printed: str
     said: str
@@ -47,8 +47,8 @@ def say(text):
 # ---- a check, from its command line to its end
 
 def run(check, *defaults, most=None, options=()):
-    """Calls a check with the programs that the command line names, or these where it does not, and with the words
-    behind them. There may be `most` words, or as many as there are programs."""
+    """Calls a check with the programs of the command line and the words after them. `defaults` replace missing
+    programs. The command line may have `most` words, or one word for each program if `most` is None."""
     words = command_line(len(defaults) if most is None else most, options)
     try:
         check(*programs(words, defaults), *words[len(defaults):])
@@ -57,7 +57,7 @@ def run(check, *defaults, most=None, options=()):
 
 
 def command_line(most, options):
-    """The words of the command line. None but these options begins with a hyphen."""
+    """The words of the command line. Only these options may begin with a hyphen."""
     words = sys.argv[1:]
     text = sys.modules["__main__"].__doc__.strip()
     if words in (["--help"], ["-h"]):
@@ -71,14 +71,14 @@ def command_line(most, options):
 
 
 def programs(words, defaults):
-    """The paths of the programs that the first words name, and of the built ones where there is no word."""
+    """The paths of the programs that the first words name. The built programs replace missing words."""
     for word in words[:len(defaults)]:
         if not is_program(word):
-            fail(f"{word} is no program that can be started")
+            fail(f"{word} is not an executable program")
     for default in defaults[len(words):]:
         if not is_program(os.path.join(TOP, default)):
             builder = "`./mencius --build`" if default == PROGRAM else "`./check crates`"
-            fail(f"{default} is not there: {builder}, at the top of the repository, builds it")
+            fail(f"{default} does not exist. {builder}, at the top of the repository, builds it.")
     paths = [*words[:len(defaults)], *(os.path.join(TOP, default) for default in defaults[len(words):])]
     return [os.path.realpath(path) for path in paths]
 
@@ -96,14 +96,14 @@ def compiled(source, path, *options):
     try:
         subprocess.run([*compiler, "-O2", "-o", path, source, *options], check=True)
     except (OSError, subprocess.CalledProcessError) as error:
-        fail(f"{os.path.basename(source)} is not compiled: {error}")
+        fail(f"{os.path.basename(source)} can't be compiled: {error}")
     return path
 
 
 # ---- starting a program
 
 def start(call, given="", seconds=SECONDS, **options):
-    """Starts a program, hands it a text, bytes or an open file on standard input, and waits until it ends."""
+    """Starts a program with a text, bytes or an open file as standard input, and waits until it ends."""
     if isinstance(given, str):
         given = given.encode("utf-8", "surrogateescape")
     standard_input = {"input": given} if isinstance(given, bytes) else {"stdin": given}
@@ -117,12 +117,12 @@ def start(call, given="", seconds=SECONDS, **options):
 
 
 def text_of(printed):
-    """What was printed as a text, another one for each bytes: what is no UTF-8 becomes surrogates."""
+    """The output as a text. Bytes that are not UTF-8 become surrogates, so different bytes have different texts."""
     return printed.decode("utf-8", "surrogateescape")
 
 
 def place_of(call, given, most=300):
-    """A call as a message names it, without the folders of its program, and so much of what it was given."""
+    """A call as a message shows it, without the folders of its program, and with `most` characters of its input."""
     words = [word if isinstance(word, str) else repr(word) for word in call]
     behind = f" < {given[:most]!r}" if isinstance(given, (str, bytes)) else ""
     return " ".join([os.path.basename(words[0]), *words[1:]]) + behind
@@ -131,16 +131,16 @@ def place_of(call, given, most=300):
 # ---- comparing
 
 def start_to(call, given, status, place=None, **options):
-    """Starts a program that has to end with this status. Messages name the place, or else the call."""
+    """Starts a program that must end with this status. Messages name the place, or the call if `place` is None."""
     ended = start(call, given, **options)
     if ended.status != status:
-        fail(f"{place or place_of(call, given)}\nit ends with status {ended.status}, and not {status}\n"
+        fail(f"{place or place_of(call, given)}\nit ends with status {ended.status} instead of {status}\n"
              + shortened(ended.printed + ended.said))
     return ended
 
 
 def compare(call, given, wanted, place=None):
-    """The program ends well, prints this, and says nothing."""
+    """The program must end with status 0, print this text, and leave standard error empty."""
     place = place or place_of(call, given)
     ended = start_to(call, given, 0, place)
     expect(place, wanted, ended.printed)
@@ -151,12 +151,12 @@ def expect(place, wanted, found):
     """Fails at the first line in which two texts differ."""
     if wanted == found:
         return
-    lines = itertools.zip_longest(wanted.split("\n"), found.split("\n"), fillvalue="(no line more)")
+    lines = itertools.zip_longest(wanted.split("\n"), found.split("\n"), fillvalue="(no more lines)")
     number, pair = next((number, pair) for number, pair in enumerate(lines, 1) if pair[0] != pair[1])
-    # Of long lines what stands around the first difference.
+    # A long line is shown from shortly before the first difference.
     begin = max(0, len(os.path.commonprefix(pair)) - SHOWN // 2)
     left, right = (shortened(line[begin:]) for line in pair)
-    fail(f"{place}\nline {number} is not as it should be\nwanted: {left}\nfound:  {right}")
+    fail(f"{place}\nline {number} differs\nwanted: {left}\nfound:  {right}")
 
 
 def shortened(text):

@@ -1,7 +1,7 @@
-"""The definitions in the folders `specs`: where each is, what it says, and which others it names.
+"""The definitions in the folders `specs`, each with its place, its text, and the definitions that it names.
 
-A definition begins at the left margin with its name, after words such as `abbrev` and `pub`; its clauses and what is
-indented below them belong to it, and the comment right above it. Imports say which definition a name means.
+A definition begins at the left margin with its name, after words such as `abbrev` and `pub`. The comment directly above
+it, its clauses, and the indented lines below them belong to it. Imports determine the definition that a name refers to.
 """
 import os
 import re
@@ -14,7 +14,7 @@ HEADER = re.compile(r"^((?:abbrev |unfoldable |pub |record |data )*)([^\s(){}:]+
 NO_DEFINITION = re.compile(r"(?:pub )?(?:use|mod) |infix|open ")
 USE = re.compile(r"^\s*(?:pub |ghost )*use ([^\s{;]+?)(?:\.\{([^}]*)\})?(?: as (\S+?))?;?\s*$", re.MULTILINE)
 TOKEN = re.compile(r"[^\s(){}\[\];,λ→×⊎↦|@]+")
-# Words of the language, and three constructors that no import names.
+# Words of the language, and three constructors that need no import.
 WORDS = set("""let in if then else do elim record data where open use as cond λ Type abbrev pub unfoldable unfolding
 module infixl infixr infix rw cc omega absurd tt Unit ⊥ refl""".split())
 # Patterns of the kit that begin with a small letter.
@@ -22,12 +22,12 @@ SMALL_CONSTRUCTORS = {"no_items", "item", "no_members", "member", "zero", "suc"}
 
 
 class Definition:
-    """A definition, or a contract, which names definitions too."""
+    """A definition. It may also stand for a contract, because a contract names definitions too."""
 
     def __init__(self, module, path, name, kind, line):
         self.module, self.path, self.name, self.kind, self.line = module, path, name, kind, line
         self.comment, self.lines = [], []
-        # The keys of the definitions that it names, and the names of the kit and the types of Rust beside them.
+        # The keys of the definitions, the names of the kit, and the types of Rust that it names.
         self.names, self.kit, self.types = set(), set(), set()
 
     @property
@@ -40,23 +40,23 @@ class Definition:
 
     @property
     def code_count(self):
-        """How many lines it has that are neither blank nor comments."""
+        """The number of lines that are neither blank nor comments."""
         return sum(1 for line in self.lines if line.strip() and not line.strip().startswith(COMMENT))
 
     @property
     def line_count(self):
-        """The same with comments."""
+        """The number of lines that are not blank, including comments."""
         return len(self.comment) + sum(1 for line in self.lines if line.strip())
 
 
 def without_comment(line):
-    """A line without its comment and without the text between quotes."""
+    """A line without its comment, and without the text inside quotes."""
     line = re.sub(r'"(?:[^"\\]|\\.)*"', '""', line)
     return re.sub(r"(?:(?<=[ (])|^)--(?:[ -].*)?$|//.*$", "", line)
 
 
 def imports(text):
-    """The names that a text imports, each with its module and its name there; and its names of modules."""
+    """The names that a text imports, each with its module and its name in that module, and the names of modules."""
     names, modules = {}, {}
     for path, items, alias in USE.findall(text):
         if not items:
@@ -70,7 +70,7 @@ def imports(text):
 
 
 def bound_names(text):
-    """The names that a text binds: in types, by λ, by let and by an arrow of a do block."""
+    """The names that a text binds in types, by λ, by let, and by an arrow in a do block."""
     found = set()
     for names in re.findall(r"[({]([^(){}:]+) : ", text):
         found.update(names.split())
@@ -116,7 +116,7 @@ class SpecFile:
 
 
 def is_clause_of(definition, line):
-    """Whether a line at the left margin is a further clause of a definition, which may be that of an operator."""
+    """Whether a line at the left margin is another clause of a definition. The definition may define an operator."""
     words, name, _ = HEADER.match(line).groups()
     if words.split():
         return False
@@ -131,7 +131,7 @@ def constructors_of(definition):
 
 
 class Specs:
-    """All definitions of the repository, and what each of them names."""
+    """All definitions of the repository, each with the definitions that it names."""
 
     def __init__(self):
         self.files, self.views = {}, {}
@@ -152,7 +152,7 @@ class Specs:
                 NameReader(self, file, found).read()
 
     def read_views(self, crate, text):
-        """Which definitions contracts see in the place of a crate's types: `ghost Value` of `impl Model for`."""
+        """Notes the definitions that contracts see in place of a crate's types: `ghost Value` in `impl Model for`."""
         for name, body in re.findall(r"impl(?:<[^>]*>)? Model for (\w+)[^{]*\{(.*?)^\}", text, re.DOTALL | re.MULTILINE):
             value = re.search(r"ghost Value = \{(.*?)\};", body, re.DOTALL)
             if value:
@@ -163,7 +163,7 @@ class Specs:
                 self.views[crate, name] = [meaning for meaning in found if meaning]
 
     def look_up(self, module, name):
-        """What a name of a module means: a definition, a type of Rust, or a name of the kit."""
+        """The meaning of a name in a module: a definition, a type of Rust, or a name of the kit."""
         file = self.files.get(module)
         if file:
             found = file.definitions.get(name) or file.constructors.get(name)
@@ -186,7 +186,7 @@ class Specs:
         return None
 
     def note(self, definition, meaning):
-        """Notes what a definition names."""
+        """Notes a meaning that a definition names."""
         kind, what = meaning or (None, None)
         if kind == "definition" and what != definition.key:
             definition.names.add(what)
@@ -198,7 +198,8 @@ class Specs:
                 self.note(definition, view)
 
     def contract(self, path, function=None, clauses=None):
-        """What the clauses of a function of a file of code name; of all its functions where none is named."""
+        """A contract with all names in the clauses of a function in a file of code. None stands for all functions, or
+        all clauses."""
         text = read(path)
         names, modules = imports(re.sub(r"ghost use [^;]*;", lambda use: use.group().replace("\n", " "), text))
         body = "\n".join(map(without_comment, text.split("\n")))
@@ -218,7 +219,7 @@ class Specs:
                 self.note(definition, self.meaning(token, names, modules))
 
     def reached(self, roots):
-        """The definitions that these name, and those that these name in turn, by their keys."""
+        """The definitions that the roots name, directly or through other definitions, by their keys."""
         found, waiting = {}, deque(key for root in roots for key in sorted(root.names))
         while waiting:
             key = waiting.popleft()
@@ -229,7 +230,7 @@ class Specs:
 
 
 def clauses_in(text):
-    """The clauses behind a function's name, each with its label, or none."""
+    """The clauses after the name of a function, each with its label or None."""
     for found in re.finditer(r"\b(?:ensures|requires)\s+(\w+)?\s*\{", text):
         end, depth = found.end(), 1
         while depth:
@@ -239,7 +240,7 @@ def clauses_in(text):
 
 
 class NameReader:
-    """Reads what a definition names: nothing that it binds itself, and of a pattern only the constructors."""
+    """Reads the names in a definition, except the names that it binds. In a pattern, only constructors count."""
 
     def __init__(self, specs, file, definition):
         self.specs, self.file, self.definition = specs, file, definition
@@ -301,7 +302,7 @@ class NameReader:
             self.read_text(right, bound | bound_names(right))
 
     def read_pattern(self, text):
-        """Notes the constructors of a pattern. The other names it binds."""
+        """Notes the constructors of a pattern. Returns the other names, which the pattern binds."""
         bound = set()
         for token in TOKEN.findall(text):
             head = token.rstrip(".").split(".")[0]
@@ -323,7 +324,7 @@ def is_constructor(head, token, meaning, specs):
 
 
 def files_below(folder, ending):
-    """The paths of the files with this ending, as they lie below the top of the repository."""
+    """The paths of the files with this ending in a folder, relative to the top of the repository."""
     found = []
     for path, folders, names in os.walk(os.path.join(TOP, folder)):
         folders.sort()

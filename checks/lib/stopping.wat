@@ -1,4 +1,4 @@
-;; A module like module/mencius.wasm for whoever calls it. Its first call answers four zeros, and each further one stops.
+;; A module with the exports of module/mencius.wasm. Its first call returns four zeros, and each later call stops.
 (module
   (memory (export "memory") 16)
   (global $next (mut i64) (i64.const 0))
