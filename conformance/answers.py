@@ -1,9 +1,8 @@
-"""What a store prints for a schedule, and where that first departs from what is expected.
+"""Parses the output of a store for a schedule, and finds its first difference from the expected output.
 
-A store prints a report, a trace, or both, as docs/FORMATS.md has them. Of a trace the lines `event` and `sent` are
-compared, and of the other kinds of lines those of which the store prints any, as far as it is known what to expect of
-them. Any other line is the store's own business. A report is compared whole. A line `refused` without a name agrees
-with every name.
+A store prints a report, a trace, or both (docs/FORMATS.md). In a trace, the lines `event` and `sent` are always
+compared. Another kind of line is compared if the store prints lines of that kind and the expected ones are known. All
+other lines are ignored. A report is compared as a whole. A line `refused` without a name agrees with every name.
 """
 import dataclasses
 import itertools
@@ -16,27 +15,27 @@ REPORT_BEGIN = re.compile(r"servers \d+ messages |server \d+ front \d+ done ")
 REPORT_REFUSAL = re.compile(r"refused \d+( |$)")
 REPORT_KINDS = frozenset({"refused", "servers", "server", "reply"})
 
-# What a difference is about.
+# The sorts of a difference.
 LINES, REPORT, CRASH, HANG, FLOOD, SILENCE, NO_FORMAT = (
     "lines", "report", "crash", "hang", "flood", "silence", "no format")
 
 
 @dataclasses.dataclass
 class Texts:
-    """The lines of a trace, one list an event and one for what comes after the last, and the lines of a report."""
+    """The lines of a trace (a list for each event, and one for the lines at the end) and the lines of a report."""
     events: list
     closing: list
     report: list
 
     def kinds(self):
-        """Which kinds of lines the trace has; these two it may have, if it is one."""
+        """The kinds of lines in the trace. `event` and `sent` always count."""
         return {kind_of(line) for lines in [*self.events, self.closing] for line in lines} | {"event", "sent"}
 
 
 @dataclasses.dataclass
 class Difference:
-    """Where a store first departs: what about, in words too; the index of the event, or None where that is not known;
-    and the lines that should agree."""
+    """The first difference of a store: its sort, its description, the index of the event (None if it is not known), and
+    the lines that should agree."""
     about: str
     words: str
     event: int = None
@@ -49,7 +48,7 @@ def kind_of(line):
 
 
 def read_texts(text):
-    """The lines of a trace and of a report in what was printed."""
+    """The lines of a trace and of a report in the output of a store."""
     texts = Texts([], [], [])
     in_report = False
     for line in text.split("\n"):
@@ -68,7 +67,7 @@ def read_texts(text):
 
 
 def agree(expected, found):
-    """Whether two lines say the same; None stands for no line."""
+    """Whether two lines agree. None means that a line is missing."""
     if expected == found:
         return True
     return expected is not None and found is not None and kind_of(expected) == "refused" and (
@@ -96,22 +95,22 @@ def differ_in_trace(expected, kinds, found):
 
 
 def differ_in_report(expected, found):
-    """The difference of two reports, or None. Which event it comes from no report says."""
+    """The difference of two reports, or None. A report does not show which event caused the difference."""
     if all_agree(expected.report, found.report):
         return None
     return Difference(REPORT, "its report has other lines", None, expected.report, found.report)
 
 
 def first_difference(expected, kinds, text):
-    """The first difference between what is expected and what a store printed, or None. Of a trace lines of these kinds
-    are compared."""
+    """The first difference between the expected output and a store's output, or None. `kinds` are the kinds of lines of
+    a trace that are compared."""
     found = read_texts(text)
     if not found.events and not found.closing and not found.report:
         if not expected.events:
             return None
         if not text.strip():
-            return Difference(SILENCE, "printed nothing")
-        return Difference(NO_FORMAT, "printed neither a report nor lines of a trace", None, [],
+            return Difference(SILENCE, "the store printed nothing")
+        return Difference(NO_FORMAT, "the store printed neither a report nor lines of a trace", None, [],
                           text.rstrip("\n").split("\n")[:5])
     difference = None
     if found.events or found.closing:
@@ -125,13 +124,13 @@ def stopped(is_flood, seconds, text):
     """The difference of a store that had to be stopped."""
     event = last_event(read_texts(text))
     if is_flood:
-        return Difference(FLOOD, "printed without end", event)
-    return Difference(HANG, f"had not ended after {seconds:g} seconds", event)
+        return Difference(FLOOD, "the store printed without end", event)
+    return Difference(HANG, f"the store had not ended after {seconds:g} seconds", event)
 
 
 def crashed(status, complaint, text):
-    """The difference of a store that ended with another status than 0, or by a signal, which is a negative one."""
-    words = f"ended with status {status}" if status > 0 else f"was ended by signal {-status}"
+    """The difference of a store that ended with a status other than 0. A negative status means a signal."""
+    words = f"the store ended with status {status}" if status > 0 else f"the store was ended by signal {-status}"
     return Difference(CRASH, words, last_event(read_texts(text)), [], complaint.splitlines()[-5:])
 
 

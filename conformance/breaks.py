@@ -1,9 +1,13 @@
-"""Ways in which a store may depart from docs/MODEL.md: edits of store.py and driver.py, for `store.py --break NAME`.
+"""Edits of store.py and driver.py that each break a rule of docs/MODEL.md, for `store.py --break NAME`.
 
-They stand in edits/: in untellable.txt those for which each schedule has the same report, with the reason, and in the
-others those that the suite tells by the report. A block there is a line `NAME: RULE`, with the rule that is departed
-from, the old lines after `-`, which stand exactly once in the two files together, the new ones after `+`, and the
-reason after `=`.
+The folder edits/ contains them. The breaks in untellable.txt change no report of any schedule, and each has its reason.
+The suite detects all other breaks by a report.
+
+Each block of a file is a break:
+- a line `NAME: RULE`, with the rule that is broken;
+- the old lines after `-`, which occur exactly once in the two files together;
+- the new lines after `+`;
+- the reason after `=`, in untellable.txt.
 """
 import collections
 import os
@@ -17,7 +21,7 @@ Break = collections.namedtuple("Break", "rule old new reason")
 
 
 def table(*names):
-    """The breaks of these files of edits/, by name."""
+    """The breaks in these files of edits/, by name."""
     found = {}
     for name in names:
         for block in read("edits", name).split("\n\n"):
@@ -37,16 +41,16 @@ BREAKS = table(*sorted(set(os.listdir(os.path.join(FOLDER, "edits"))) - {"untell
 
 
 def load(name):
-    """The module `store`, made anew with the edit of this name."""
+    """A new module `store` with the edit of this name."""
     edit = BREAKS.get(name) or UNTELLABLE[name]
     sources = {module: read(module + ".py") for module in ("driver", "store")}
     if sum(source.count(edit.old) for source in sources.values()) != 1:
-        raise ValueError(f"{name}: the old text does not stand exactly once in store.py and driver.py")
+        raise ValueError(f"{name}: the old text does not occur exactly once in store.py and driver.py")
     modules = {}
     for module, source in sources.items():
         modules[module] = types.ModuleType(module)
         code = compile(source.replace(edit.old, edit.new), f"{module}.py with {name}", "exec")
-        sys.modules["driver"] = modules["driver"]  # the one that store.py imports
+        sys.modules["driver"] = modules["driver"]  # so that store.py imports the edited driver
         try:
             exec(code, modules[module].__dict__)
         finally:

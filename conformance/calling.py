@@ -1,7 +1,8 @@
-"""Calls the program: inside this process by the library, inside one process of node by the module, or by starting it.
+"""Calls the program in one of three ways: by the library in this process, by the module in a process of node, or by
+starting the program.
 
-Each way is a function of the arguments and of what stands on standard input. It answers the exit status and what is
-printed, and raises OSError where there is no answer.
+Each way is a function of the arguments and of the standard input. It returns the exit status and the standard output,
+and raises OSError if the call fails.
 """
 import base64
 import functools
@@ -24,13 +25,13 @@ def by_starting(program):
 
 
 def by_library():
-    """By the library that MENCIUS_LIBRARY names."""
+    """Calls the library that MENCIUS_LIBRARY names."""
     mencius = load(os.path.join(TOP, "embedding", "mencius.py"))
     return lambda words, data: mencius.call(words, data)[:2]
 
 
 def by_module():
-    """By one process of node, which is started at the first call."""
+    """Calls the module in a process of node, which starts at the first call."""
     @functools.cache
     def node():
         return subprocess.Popen(["node", os.path.join(TOP, "embedding", "answers.mjs")], stdin=subprocess.PIPE,
@@ -42,7 +43,7 @@ def by_module():
         node().stdin.flush()
         answer = node().stdout.readline()
         if not answer:
-            raise OSError("node ended, which calls the module")
+            raise OSError("the process of node that calls the module has ended")
         status, printed, _ = json.loads(answer)
         return status, base64.b64decode(printed)
     return call
@@ -53,8 +54,8 @@ def coded(data):
 
 
 def at_once():
-    """The way that starts no program for a call: by the library where one is named, by the module where node is there and
-    the module is made of the sources as they are, and else None."""
+    """A way that does not start the program for each call, or None. This is the library if MENCIUS_LIBRARY names one.
+    Otherwise it is the module, if node is installed and the module was built from the current sources."""
     if "MENCIUS_LIBRARY" in os.environ:
         return by_library()
     return by_module() if shutil.which("node") and is_module_fresh() else None
@@ -70,12 +71,12 @@ def is_module_fresh():
 
 
 def load(path):
-    """A file of Python as a module, whatever its name."""
+    """A Python file as a module. Its name need not end in .py."""
     name = os.path.basename(path).removesuffix(".py")
     return importlib.machinery.SourceFileLoader(name, path).load_module()
 
 
 def choose(program):
-    """The quickest way to have a program's answers: that of this repository need not be started."""
+    """The fastest way to call a program. The program of this repository need not be started."""
     is_launcher = os.path.realpath(program) == LAUNCHER
     return is_launcher and at_once() or by_starting(program)

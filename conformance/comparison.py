@@ -1,4 +1,4 @@
-"""Finds the first schedule on which a store departs from what is expected, the event, and a least schedule."""
+"""Finds the first schedule on which a store differs from the expected output, its event, and a shortest schedule."""
 import dataclasses
 import time
 
@@ -10,13 +10,13 @@ import starting
 
 @dataclasses.dataclass
 class Finding:
-    """A difference: of a whole schedule, and of the shortest one that was found to show it too."""
+    """A difference of a whole schedule, and of the shortest schedule so far that also shows it."""
     schedule: reference.Schedule
     difference: answers.Difference
     short: reference.Schedule
     short_difference: answers.Difference
     is_least: bool = False
-    is_steady: bool = True  # whether the same schedule showed it again
+    is_steady: bool = True  # whether a second run of the schedule also shows the difference
 
     def note(self, schedule, difference):
         if difference.event is None and schedule.events:
@@ -25,7 +25,7 @@ class Finding:
 
 
 class Comparison:
-    """A store, what is expected of it, and how many schedules it agreed on. `say` is told how far it is."""
+    """A store, the source of the expected output, and the number of schedules that agreed. `say` gets the progress."""
 
     def __init__(self, store, source, say):
         self.store, self.source, self.say = store, source, say
@@ -34,8 +34,8 @@ class Comparison:
         self.slowest = 0.0
 
     def run(self, schedules, count, shorten_seconds):
-        """Goes through the schedules up to the first difference, and shortens that one. `finding` has what was found,
-        also where this is interrupted."""
+        """Runs the schedules up to the first difference, and shortens that schedule. After an interruption, `finding`
+        still contains the difference that was found."""
         for schedule in schedules:
             self.say(f"{self.agreed} of {count} schedules agree")
             difference = self.difference(schedule, self.store.seconds)
@@ -56,8 +56,8 @@ class Comparison:
         return answers.first_difference(self.source.expect(schedule), self.source.kinds, ended.text)
 
     def again(self, schedule):
-        """The difference that a schedule shows, if it is of the sort that was found; and notes it. A store that hangs
-        gets less time for this than before, if it answered others at once."""
+        """Notes and returns the difference that a schedule shows, if it is of the sort that was found first. A store
+        that hangs gets less time for this than before, if it was fast on other schedules."""
         brief = max(1.0, 10 * self.slowest) if self.slowest else self.store.seconds
         difference = self.difference(schedule, min(self.store.seconds, brief))
         if difference is None or difference.about != self.finding.difference.about:
@@ -66,14 +66,14 @@ class Comparison:
         return difference
 
     def study(self, end):
-        """Looks for the event that shows the difference, and for a least schedule, until time is up."""
+        """Looks for the event that shows the difference, and for a shortest schedule, until the time is up."""
         finding = self.finding
         self.say(f"{finding.schedule.name} differs, looking for the event")
         finding.is_steady = self.again(finding.schedule) is not None
         if not finding.is_steady:
             return
         event = self.locate()
-        # Now the shortest schedule is the one up to that event.
+        # The shortest schedule so far now ends with that event.
         finding.difference = dataclasses.replace(finding.short_difference, event=event, words=finding.difference.words)
 
         def tell(shortening_now):
@@ -91,8 +91,8 @@ class Comparison:
             pass
 
     def locate(self):
-        """The index of the event after which the difference shows: the one that the difference names, if the schedule
-        up to there shows it, and else found by halving."""
+        """The index of the event after which the difference shows. This is the event that the difference names, if the
+        schedule up to that event shows it. Otherwise a binary search finds the event."""
         schedule, named = self.finding.schedule, self.finding.difference.event
         if named is not None and self.again(schedule.front(named + 1)):
             return named

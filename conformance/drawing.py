@@ -1,9 +1,11 @@
-"""Draws schedules that bring about what stores get wrong: servers that suspect each other by turns at the same few
-instances, messages that come late, twice or not at all, servers that are cut off for a while, and commands that lose
-their instances and are suggested again.
+"""Draws schedules that cause the situations that stores get wrong:
+- servers suspect each other in turn at the same few instances;
+- messages arrive late, twice or never;
+- servers are cut off for a while;
+- commands lose their instances and are suggested again.
 
-Each seed gives the same schedule each time. What is not asked for, the rates and the size of the cluster, is drawn from
-the seed too, so that some schedules have much of a thing and others nothing of it.
+A seed always gives the same schedule. The seed also draws the rates and the size of the cluster, unless they are given.
+So some schedules have many events of a kind, and others have none.
 """
 import dataclasses
 import random
@@ -12,25 +14,26 @@ import members
 import reference
 from operations import NEWEST, OPERATIONS, of_version
 
-# How often a thing happens, in a hundred: the name, what it is, and the rates that are drawn where none is asked for.
+# For each name, the text of its option, and the rates that are drawn if the option is not given. Rates are in percent,
+# except `burst`, which is a number of commands.
 RATES = {
-    "submissions": ("of 100 events, how many begin to submit commands", (2, 5, 10)),
-    "burst": ("up to so many commands one after the other at one server", (1, 2, 3)),
-    "suspicion": ("of 100 events, how many begin rounds of suspicions of one server", (5, 15, 30)),
-    "retry": ("of 100 events, how many suggest again, where a command waits", (2, 10)),
-    "loss": ("of 100 messages on their way to a server, how many are lost", (0, 0, 0, 5, 15)),
-    "repeats": ("of 100 deliveries, how many come again", (0, 5, 15)),
-    "delay": ("of 100 messages on their way to a server, how many are late", (0, 10, 30)),
-    "cuts": ("of 100 events, how many cut a server off for a while", (0, 0, 2, 4)),
-    "refusals": ("of 100 events, how many are such as a cluster refuses", (2, 5, 10)),
+    "submissions": ("how many of 100 events start to submit commands", (2, 5, 10)),
+    "burst": ("at most N commands in a row at one server", (1, 2, 3)),
+    "suspicion": ("how many of 100 events start rounds of suspicions of a server", (5, 15, 30)),
+    "retry": ("how many of 100 events suggest a waiting command again", (2, 10)),
+    "loss": ("how many of 100 messages on their way to a server are lost", (0, 0, 0, 5, 15)),
+    "repeats": ("how many of 100 deliveries are repeated", (0, 5, 15)),
+    "delay": ("how many of 100 messages on their way to a server are late", (0, 10, 30)),
+    "cuts": ("how many of 100 events cut a server off for a while", (0, 0, 2, 4)),
+    "refusals": ("how many of 100 events are meant to be refused", (2, 5, 10)),
 }
 KEYS = ("a", "a", "a", "a", "b", "A")
 TEXTS = ("x", "y", "", "")
-LATE = 60  # events for which a late message is on its way, at most
+LATE = 60  # a late message is on its way for fewer events than this
 
 
 class Dice:
-    """Random numbers of a seed. `random` alone gives the same ones in each version of Python."""
+    """Random numbers of a seed. They use `random()` only, which gives the same numbers in each version of Python."""
 
     def __init__(self, seed):
         self.source = random.Random(seed)
@@ -52,8 +55,8 @@ class Dice:
 
 @dataclasses.dataclass
 class Wish:
-    """What the schedules are to be like. `members` has those fields of the cluster that are not to be drawn, and `rates`
-    those of RATES."""
+    """The required properties of the schedules. `members` and `rates` contain the fields of the cluster and the rates
+    that are given. All others are drawn."""
     events: int
     members: dict = dataclasses.field(default_factory=dict)
     has_cas: bool = True
@@ -70,7 +73,7 @@ def draw(seed, wish):
 
 
 class Drawing:
-    """A schedule that grows, and what is known of the messages on their way."""
+    """A schedule that grows, and the state of its messages."""
 
     def __init__(self, seed, wish):
         self.dice = Dice(seed)
@@ -83,17 +86,18 @@ class Drawing:
         self.calm_from = wish.events * self.dice.pick((50, 60, 70, 80)) // 100
         self.cluster = reference.Cluster(self.members)
         self.events, self.messages = [], []
-        self.identities = []  # each command's home with its identity
-        self.on_way = {}  # each message with a server that it is on its way to, and the event before which it is late
+        self.identities = []  # (home, identity) of each command
+        self.on_way = {}  # for a (message, receiver) on its way, the index of the first event at which it may arrive
         self.heard, self.lost = [], []
-        self.known = set()  # each server with an instance that it learned by a Learn or tells by one
-        self.room = self.count * self.dice.pick((2, 4, 8))  # above so many on their way, no new ones are brought about
-        self.cut = {}  # up to which event a server is cut off
-        self.victim = None  # whom the others suspect
-        self.plot = iter(())  # what goes on step by step, an event each
+        self.known = set()  # (server, instance) if the server heard or sent a Learn of that instance
+        self.room = self.count * self.dice.pick((2, 4, 8))  # with more messages on their way, no commands are submitted
+        self.cut = {}  # for a server, the index of the event at which its cut ends
+        self.victim = None  # the server that the others suspect
+        self.plot = iter(())  # a generator that adds an event in each step
 
     def attempt(self, event, refusal_rate=0):
-        """Takes the event if the cluster accepts it, and a refused one so often of 100 times."""
+        """Adds the event if the cluster accepts it. A refused event is added in `refusal_rate` of 100 cases. Returns
+        whether the event was added."""
         refusal, sent = self.cluster.step(event)
         if refusal and not (self.wish.has_refusals and self.dice.chance(refusal_rate)):
             return False
@@ -109,7 +113,7 @@ class Drawing:
         return True
 
     def draw_event(self):
-        """Adds an event, or several."""
+        """Adds one event or several events."""
         if not self.is_calm() and self.dice.chance(self.rates["repeats"]) and self.repeat():
             return
         if self.dice.chance(92) and self.go_on():
@@ -121,11 +125,11 @@ class Drawing:
             self.repeat() or self.attempt(self.refused_event(), 100)
 
     def is_calm(self):
-        """Whether nothing new is to happen, so that what did shows."""
+        """Whether the last part of the schedule has begun. It adds no new trouble, so that earlier faults can show."""
         return len(self.events) >= self.calm_from
 
     def go_on(self):
-        """Goes on with the plot by an event; tells whether it had one."""
+        """Adds the next event of the plot. Returns whether it had one."""
         before = len(self.events)
         for _ in self.plot:
             if len(self.events) > before:
@@ -133,7 +137,7 @@ class Drawing:
         return False
 
     def disturb(self):
-        """Does what makes a calm schedule a hard one; tells whether that was an event."""
+        """Adds trouble to the schedule. Returns whether that added an event."""
         before = len(self.events)
         if self.dice.chance(self.rates["cuts"]):
             self.victim = self.dice.below(self.count)
@@ -149,7 +153,7 @@ class Drawing:
         return len(self.events) > before or self.go_on()
 
     def settle(self):
-        """Brings on what was begun; tells whether there was anything."""
+        """Continues work that was begun. Returns whether that added an event."""
         if self.dice.chance(40) and self.anywhere("execute"):
             return True
         if self.is_calm() and self.dice.chance(15) and self.retry():
@@ -157,12 +161,12 @@ class Drawing:
         return self.deliver() or self.anywhere("execute") or self.retry() or self.is_calm() and self.unblock()
 
     def anywhere(self, word):
-        """Executes or suggests again at some server that can."""
+        """Adds an `execute` or a `retry` at a server that accepts it."""
         rate = self.rates["refusals"] / 2
         return any(self.attempt(f"{word} {server}", rate) for server in self.dice.order(range(self.count)))
 
     def retry(self):
-        """Suggests again, and at times once more where nothing may wait any longer."""
+        """Adds a `retry`. Sometimes adds a second one, at a server where perhaps no command waits any more."""
         if not self.anywhere("retry"):
             return False
         if self.dice.chance(30):
@@ -189,8 +193,8 @@ class Drawing:
     # ---- suspicions
 
     def fight(self):
-        """Rounds of suspicions of one server, mostly of the last one again. Each round gets as far as it happens to, by
-        a narrow part of the servers, so that votes and promises of several ballots stand beside each other."""
+        """Rounds of suspicions of one server, usually the same server as before. A small part of the servers takes part
+        in each round, and chance decides how far it gets. So votes and promises of several ballots exist together."""
         if self.victim is None or self.dice.chance(25):
             self.victim = self.dice.below(self.count)
         others = [server for server in range(self.count) if server != self.victim]
@@ -201,7 +205,7 @@ class Drawing:
             yield from self.submit_burst(self.victim)
         for message in self.messages[first:]:
             yield from self.spread(message, self.dice.below(self.majority))
-        # Who accepted the suggestion mostly has no part in the first round, so that a no-op may win that.
+        # Most servers that accepted the suggestion do not take part in the first round, so that a no-op may win it.
         left_out = {server for number, server in self.heard if number >= first and self.dice.chance(70)}
         is_whole = self.dice.chance(30)
         server = self.dice.pick(others)
@@ -224,7 +228,7 @@ class Drawing:
         return self.attempt(f"suspect {server} {self.victim}", 4 * self.rates["refusals"])
 
     def take_round(self, prepare, is_whole, left_out):
-        """The messages that follow a Prepare, as far as it happens, or up to the Learns."""
+        """Delivers the messages that follow a Prepare, up to the Learns or up to an earlier point."""
         first = len(self.messages)
         yield from self.spread(prepare, self.majority + self.dice.below(2), left_out)
         for kind in ("Promise", "Propose", "Accepted", "Learn"):
@@ -237,7 +241,8 @@ class Drawing:
                 yield from self.spread(message, self.count if is_whole else 1 + self.dice.below(self.majority))
 
     def spread(self, message, count, last=()):
-        """Delivers a message to so many of the servers that it is on its way to; to some only if others do not do."""
+        """Delivers a message to `count` of its remaining receivers. Servers in `last` are taken only if others are too
+        few."""
         receivers = self.dice.order(pair for pair in self.on_way if pair[0] == message.number)
         for pair in sorted(receivers, key=lambda pair: pair[1] in last)[:count]:
             if pair in self.on_way:
@@ -245,7 +250,7 @@ class Drawing:
                 yield
 
     def unblock(self):
-        """Lets somebody suspect somebody, so that what is still open comes to be decided."""
+        """Lets a server suspect another one, so that open instances can be decided."""
         pairs = [(one, other) for one in range(self.count) for other in range(self.count) if one != other]
         return any(self.attempt(f"suspect {one} {other}") for one, other in self.dice.order(pairs))
 
@@ -279,8 +284,8 @@ class Drawing:
         self.attempt(f"deliver {pair[0]} {pair[1]}")
 
     def forget(self, rate):
-        """So many of 100 messages about what their receiver has learned are never delivered: mostly they show nothing.
-        Learns to an owner stay, whose command may wait."""
+        """Drops messages about instances that their receiver has learned, `rate` of 100, because they rarely show a
+        fault. A Learn to the owner of its instance stays, because the owner's command may wait."""
         for pair in list(self.on_way):
             message = self.messages[pair[0]]
             if ((pair[1], message.instance) in self.known and message.kind not in ("Suggest", "Skip")
@@ -290,7 +295,7 @@ class Drawing:
                     self.heard.append(pair)
 
     def repeat(self):
-        """Delivers again what was heard, mostly lately."""
+        """Delivers a message again that was heard, usually a recent one."""
         recent = self.heard[-20:] if self.dice.chance(70) else self.heard
         if not recent:
             return False
@@ -305,7 +310,7 @@ class Drawing:
     # ---- refusals
 
     def refused_event(self):
-        """An event that is mostly refused, often for two causes of which the first counts."""
+        """An event that is usually refused. It often has two causes, and the refusal must name the first."""
         server = self.dice.below(self.count)
         beyond = self.count + self.dice.below(2)
         somebody = self.dice.pick((server, server, beyond))

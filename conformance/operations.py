@@ -1,9 +1,9 @@
-"""The operations of commands: all that draws commands, tells their version or asks what they do asks here."""
+"""The operations of commands. Code that draws commands, or needs their versions or effects, takes them from here."""
 from typing import NamedTuple
 
 
 class Operation(NamedTuple):
-    """How many texts stand behind the key, the version of scenarios that it came with, and how often it is drawn."""
+    """The number of texts after the key, the first version of scenarios with the operation, and its weight in draws."""
     texts: int
     version: int
     times: int
@@ -19,7 +19,7 @@ NEWEST = max(operation.version for operation in OPERATIONS.values())
 
 
 def text_after(held, word, texts):
-    """What a key holds after an operation with these texts at it, where it held this text before, or none."""
+    """The text that a key holds after an operation with these texts, if it held the text `held`. None means no text."""
     if word == "set" or (word == "cas" and held == texts[0]):
         return texts[-1]
     return None if word == "del" else held
@@ -32,11 +32,11 @@ def version_of(events):
 
 
 def of_version(version):
-    """The words of the operations that a version has, each as often as it is drawn."""
+    """The words of the operations of a version. Each is repeated according to its weight in draws."""
     return [word for word, operation in OPERATIONS.items() if operation.version <= version
             for _ in range(operation.times)]
 
 
 def samples(key="a", texts=("x", "y")):
-    """Each operation at this key, with the first of these texts that it needs."""
+    """An example of each operation, with this key and as many of these texts as it needs."""
     return [" ".join([word, key, *texts[:operation.texts]]) for word, operation in OPERATIONS.items()]

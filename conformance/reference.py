@@ -1,4 +1,4 @@
-"""What is expected of a store: what store.py prints, or a program `mencius`."""
+"""The expected output of a store, from store.py or from a program `mencius`."""
 import dataclasses
 import json
 
@@ -12,34 +12,34 @@ from operations import version_of
 
 @dataclasses.dataclass
 class Schedule:
-    """A scenario of `mencius replay`, under a name: its members, by the fields of members.py, and its events."""
+    """A scenario of `mencius replay` with a name, its members (the fields of members.py) and its events."""
     name: str
     members: dict
     events: list
 
     def version(self):
-        """The least version that has all of its operations."""
+        """The least version that contains all operations of the events."""
         return version_of(self.events)
 
     def front(self, count):
-        """The schedule of the first so many events."""
+        """The schedule with only the first `count` events."""
         return Schedule(self.name, self.members, self.events[:count])
 
     def text(self):
-        """The scenario as JSON, with an event a line."""
+        """The scenario as JSON, with one event in each line."""
         head = {"version": self.version(), **members.written(self.members)}
         events = ",\n  ".join(json.dumps(event) for event in self.events)
         return json.dumps(head)[:-1] + ', "events": [' + (f"\n  {events}\n" if events else "") + "]}\n"
 
 
 def schedule_of(name, scenario):
-    """The schedule that a scenario is, as `json` reads it."""
+    """The schedule of a parsed scenario."""
     return Schedule(name, members.members_of(scenario), scenario["events"])
 
 
 @dataclasses.dataclass
 class Sent:
-    """A message: who sent it, which server it goes to, or None for all, and its instance, or the first of several."""
+    """A message. `to` is a server, or None for all servers. The instance of a Skip is the first one that it covers."""
     number: int
     kind: str
     source: int
@@ -48,13 +48,13 @@ class Sent:
 
 
 class Cluster:
-    """A cluster of store.py of such members, which is stepped event by event."""
+    """A cluster of store.py with these members. The caller steps it event by event."""
 
     def __init__(self, of):
         self.driver = store.replay({**of, "events": []})
 
     def step(self, event):
-        """The name of the refusal, or None, and the messages that were sent."""
+        """Steps through an event. Returns the name of its refusal, or None, and the messages that it sent."""
         first = len(self.driver.messages)
         try:
             self.driver.step(event.split(" "))
@@ -65,13 +65,13 @@ class Cluster:
 
 
 def sent_of(number, message):
-    """What is asked here of a message of store.py."""
+    """A message of store.py as `Sent`."""
     to = None if message.to == "all" else message.to
     return Sent(number, message.kind, message.source, to, message.says.get("instance", message.says.get("first")))
 
 
 class StoreReference:
-    """Expects what store.py prints: the report, and of the trace these kinds of lines."""
+    """Expects the output of store.py: the report, and these kinds of lines of the trace."""
     kinds = frozenset({"event", "sent"})
 
     def expect(self, schedule):
@@ -80,12 +80,12 @@ class StoreReference:
 
 
 class ProgramFailed(Exception):
-    """The program that says what to expect did not."""
+    """The program that gives the expected output failed."""
 
 
 class ProgramReference:
-    """Expects what a program `mencius` prints, which is called in one of the ways of calling.py: the report and the trace,
-    of that these kinds of lines."""
+    """Expects the output of a program `mencius`: the report, and these kinds of lines of the trace. `call` is a way of
+    calling.py."""
 
     def __init__(self, call, kinds=answers.TRACE_KINDS | {"server", "unheard"}):
         self.call, self.kinds = call, kinds
@@ -106,8 +106,9 @@ class ProgramReference:
 
 
 def choose(program):
-    """What to expect: of a program that is named all that it prints. Else the kinds of lines that store.py prints, as the
-    program prints them where it can be called without being started, and as store.py does where it cannot."""
+    """The source of the expected output. If the user names a program, its whole output is expected. Otherwise only the
+    kinds of lines that store.py prints are expected. They come from the proved code if it can be called without
+    starting the program, and from store.py if not."""
     if program:
         return ProgramReference(calling.choose(program))
     call = calling.at_once()

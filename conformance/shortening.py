@@ -1,7 +1,8 @@
-"""Shortens a schedule to a least one that still shows a difference: no event of it can be left out.
+"""Shortens a schedule that shows a difference until no event can be left out.
 
-A message keeps its meaning where events before it go: it is named by the event that sent it and by its place among that
-event's messages, and gets its number anew. Where the event that sent it goes, its deliveries and losses go with it.
+If an event is left out, later messages get new numbers. So a delivery or a loss names its message by the event that
+sent it, and by the place among the messages of that event. If that event is left out, so are these deliveries and
+losses.
 """
 import dataclasses
 
@@ -10,13 +11,14 @@ import reference
 
 
 class TimeIsUp(Exception):
-    """Shortening has to end here."""
+    """The time to shorten a schedule is up."""
 
 
 @dataclasses.dataclass
 class Item:
-    """An event of the schedule. `sender` is the place of the event that sent the message of a `deliver` or `lose`, and
-    `order` the message's place among those; None for all other events, and where no such message was sent."""
+    """An event of the schedule. For a `deliver` or a `lose`, `sender` is the place of the event that sent the message,
+    and `order` is the place among the messages of that event. Both are None for all other events. They are also None if
+    no message with the number was sent."""
     place: int
     text: str
     sender: int = None
@@ -39,8 +41,8 @@ def name_messages(schedule):
 
 
 def number_messages(items, of, name):
-    """The schedule of the items with such members, and the items that it has: without those whose message is not sent
-    now."""
+    """The schedule of the items with the members `of`, and the items that are in it. Items whose message is no longer
+    sent are left out."""
     cluster = reference.Cluster(of)
     numbers, texts, kept = {}, [], []
     for item in items:
@@ -59,8 +61,8 @@ def number_messages(items, of, name):
 
 
 class Shortening:
-    """A schedule that gets shorter. `differs` tells of a schedule whether it shows the difference, and `best` is the
-    shortest so far that does. `tell` is called after each try, and may end all by TimeIsUp."""
+    """A schedule that gets shorter. `differs` returns whether a schedule shows the difference. `best` is the shortest
+    schedule so far that shows it. `tell` is called after each try, and may raise TimeIsUp."""
 
     def __init__(self, schedule, differs, tell):
         self.best, self.items = schedule, name_messages(schedule)
@@ -73,7 +75,7 @@ class Shortening:
             self.leave_out()
 
     def takes(self, items, of):
-        """Goes on with these items and members if they still show the difference."""
+        """Keeps these items and members if they still show the difference. Returns whether they do."""
         schedule, kept = number_messages(items, of, self.best.name)
         self.tries += 1
         does = self.differs(schedule)
@@ -83,7 +85,7 @@ class Shortening:
         return does
 
     def leave_out(self):
-        """Leaves out ever smaller parts, the last ones first, until no single event can go."""
+        """Leaves out smaller and smaller parts, beginning at the end, until no single event can be left out."""
         size = max(len(self.items) // 2, 1)
         while size:
             start, length = len(self.items) - size, len(self.items)
@@ -91,10 +93,10 @@ class Shortening:
                 begin = max(start, 0)
                 self.takes(self.items[:begin] + self.items[start + size:], self.best.members)
                 start = min(start, len(self.items)) - size
-            # Greater parts are tried once.
+            # Parts of more than one event are tried only once.
             if size > 1 or len(self.items) == length:
                 size //= 2
 
     def make_smaller(self):
-        """Takes smaller members that still show the difference; tells whether some did."""
+        """Tries smaller members. Returns whether some of them still show the difference."""
         return any(self.takes(self.items, smaller) for smaller in members.smaller(self.best.members))

@@ -1,4 +1,4 @@
-"""Starts a store, hands it a schedule, and waits for what it prints."""
+"""Starts a store, passes it a schedule, and reads its output."""
 import dataclasses
 import os
 import selectors
@@ -7,15 +7,15 @@ import subprocess
 import tempfile
 import time
 
-# No schedule that the program takes has an answer that is longer.
+# In bytes. No schedule that the program accepts has a longer output.
 LONGEST_ANSWER = 1 << 26
-KEPT_ANSWER = 1 << 20  # of a store that prints more
-LONGEST_COMPLAINT = 1 << 12
+KEPT_ANSWER = 1 << 20  # bytes that are kept of an output that is too long
+LONGEST_COMPLAINT = 1 << 12  # bytes that are kept of standard error, from its end
 
 
 @dataclasses.dataclass
 class Ended:
-    """How a store ended: `status` is None where it was stopped, for the time or for the length of its answer."""
+    """How a store ended. `status` is None if it was stopped because it took too long or printed too much."""
     status: int
     text: str
     complaint: str
@@ -24,15 +24,15 @@ class Ended:
 
 
 class Store:
-    """A store's command line, and the seconds that it gets for a schedule at most."""
+    """The command line of a store, and the most seconds that it may take for a schedule."""
 
     def __init__(self, words, seconds):
         self.words = words
         self.seconds = seconds
 
     def run(self, text, seconds):
-        """Hands the store a scenario on standard input, and stops it after so many seconds. OSError where it cannot be
-        started."""
+        """Starts the store with a scenario on standard input, and stops it after `seconds`. Raises OSError if the store
+        cannot be started."""
         begin = time.monotonic()
         with tempfile.TemporaryFile() as scenario:
             scenario.write(text.encode())
@@ -53,7 +53,8 @@ class Store:
 
 
 def read_both(child, end):
-    """What the child prints until it closes both outputs, and whether it did so in time and length."""
+    """The output of the child until it closes both streams, and whether it closed them within the limits of time and
+    length."""
     printed = bytearray()
     complaint = bytearray()
     with selectors.DefaultSelector() as selector:
@@ -74,7 +75,7 @@ def read_both(child, end):
 
 
 def await_end(child, end):
-    """The child's status, or None where it goes on though it has closed its outputs."""
+    """The child's status, or None if it is still running after it has closed its output."""
     try:
         return child.wait(max(end - time.monotonic(), 0.01))
     except subprocess.TimeoutExpired:
@@ -82,7 +83,7 @@ def await_end(child, end):
 
 
 def stop(child):
-    """Ends the child and whatever it started, so that nothing stays behind."""
+    """Ends the child and all processes that it started."""
     try:
         os.killpg(child.pid, signal.SIGKILL)
     except ProcessLookupError:

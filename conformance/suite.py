@@ -1,8 +1,9 @@
-"""The schedules of schedules/: NAME.json is a scenario of `mencius replay`, NAME.txt its report, and NAME.trace the lines
-`event` and `sent` of its trace.
+"""The schedules in schedules/. NAME.json is a scenario of `mencius replay`, NAME.txt is its report, and NAME.trace
+contains the lines `event` and `sent` of its trace.
 
-Names that begin with cas_ have compare and set, ahead_ a beta, and limit_ what this program has no more room for: a
-store without one of these leaves them out. Those at a limit are long, and have no file of their trace.
+Names that begin with cas_ use compare and set, and names that begin with ahead_ have a beta. Names that begin with
+limit_ reach a limit of this program. You can leave out each of these groups if your store does not have the feature.
+The schedules at a limit are long, so they have no file with their trace.
 """
 import functools
 import json
@@ -12,7 +13,7 @@ FOLDER = os.path.join(os.path.dirname(os.path.realpath(__file__)), "schedules")
 
 
 def names(without=()):
-    """All names, short schedules first, but for those that begin with one of these words."""
+    """All names, except those that begin with one of the words in `without`. Short schedules come first."""
     found = [file[:-len(".json")] for file in os.listdir(FOLDER) if file.endswith(".json")]
     return sorted((name for name in found if not name.startswith(tuple(without))), key=lambda name: (length(name), name))
 
@@ -22,7 +23,7 @@ def length(name):
 
 
 def text(name):
-    """The scenario, as it is read."""
+    """The text of the scenario."""
     return read(name + ".json")
 
 
@@ -37,7 +38,7 @@ def report(name):
 
 
 def trace(name):
-    """The lines of the trace, or None where there is no file of them."""
+    """The lines of the trace, or None if they have no file."""
     return read(name + ".trace").splitlines() if os.path.exists(os.path.join(FOLDER, name + ".trace")) else None
 
 

@@ -1,6 +1,6 @@
-// Answers calls of the program by the module, for a language that runs no WebAssembly: one process of node takes all of
-// them. It reads one JSON text a line, [ARGUMENTS, INPUT], and prints one for each, [STATUS, PRINTED, SAID]. All bytes are
-// written in base 64. MENCIUS_MODULE names another module than module/mencius.wasm.
+// Runs calls of the program by the module, for a language that cannot run WebAssembly. One process of node runs all
+// calls. It reads a JSON text from each line, [ARGUMENTS, INPUT], and prints a line [STATUS, PRINTED, SAID] for it. All
+// bytes are in base64. The environment variable MENCIUS_MODULE may name a module other than module/mencius.wasm.
 import { createInterface } from 'node:readline';
 import { mencius } from '../module/mencius.mjs';
 

@@ -1,7 +1,7 @@
 /* cc caller.c libmencius_exports.a liblibc_c.a -o caller -lpthread
  *
- *     ./caller replay --strict < SCENARIO           does what the program does
- *     ./caller --threads replay < SCENARIO          the same from four threads of 128 kB of stack, 100 times each */
+ *     ./caller replay --strict < SCENARIO           does the same as the program
+ *     ./caller --threads replay < SCENARIO          also makes 100 calls in each of four threads, on 128 kB of stack */
 #define _POSIX_C_SOURCE 200809L
 #include "mencius.h"
 #include <pthread.h>
@@ -21,13 +21,13 @@ struct texts {
 static uint8_t *grow(uint8_t *old, size_t room) {
     uint8_t *grown = realloc(old, room ? room : 1);
     if (!grown) {
-        fputs("caller: no memory\n", stderr);
+        fputs("caller: out of memory\n", stderr);
         exit(5);
     }
     return grown;
 }
 
-/* The second call has as much room as the first one asked for. */
+/* If the texts do not fit, the second call has as much space as the first one requested. */
 static void call(struct texts *t) {
     size_t printed = 65536, said = 4096;
     t->printed = grow(NULL, printed);
@@ -47,7 +47,7 @@ static void *repeat(void *wanted) {
         if (t.answer.status != first->answer.status || t.answer.printed != first->answer.printed ||
             memcmp(t.printed, first->printed, t.answer.printed) || t.answer.said != first->answer.said ||
             memcmp(t.said, first->said, t.answer.said)) {
-            fputs("caller: another answer\n", stderr);
+            fputs("caller: a thread got another answer\n", stderr);
             exit(6);
         }
         free(t.printed);

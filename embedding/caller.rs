@@ -17,13 +17,13 @@ unsafe extern "C" {
     );
 }
 
-/// What the program prints and says, and its exit status.
+/// The standard output, the standard error and the exit status of the program.
 pub fn mencius(arguments: &[&str], input: &[u8]) -> (Vec<u8>, Vec<u8>, u8) {
     let words: Vec<u8> = arguments.iter().flat_map(|word| word.bytes().chain([0])).collect();
     let (mut printed, mut said) = (vec![0; 65_536], vec![0; 4_096]);
     loop {
         let mut answer = Answer::default();
-        // Safety: each pointer is to so many bytes as stand behind it, and a vector's pointer is never null.
+        // Safety: each pointer points to as many bytes as its length says, and the pointer of a vector is never null.
         unsafe {
             mencius_call(
                 words.as_ptr(), words.len(), input.as_ptr(), input.len(),

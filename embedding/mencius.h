@@ -1,12 +1,12 @@
-/* The program `mencius` as a call. One function does what the program does, over bytes in memory. Another one tells what
- * each server of a cluster knows after a schedule.
+/* The program `mencius` as C functions. mencius_call does the work of the program on bytes in memory, and mencius_state
+ * returns what each server of a cluster knows after a schedule.
  *
- * The proved code reads and writes what it is given here and nothing else: no file, no clock, no variable of the
- * environment. It takes memory by malloc, realloc and free, gives all of it back before it returns, and keeps nothing
- * from one call to the next. So calls from several threads at once are fine, as long as no two of them share a room or
- * an answer. It must not be called from a signal handler, and needs 128 kB of stack.
+ * The functions use no file, no clock and no environment variable. They access the memory that you pass to them, and
+ * memory from malloc and realloc, which they free before they return. They keep no state between calls. So several
+ * threads may call them at the same time, if no two calls share an output buffer or an answer. A call needs 128 kB of
+ * stack. Do not call these functions from a signal handler.
  *
- * Link with libmencius_exports.a and liblibc_c.a, and with nothing else but the C library. docs/EMBEDDING.md tells how. */
+ * Link with libmencius_exports.a, liblibc_c.a and the C library only. docs/EMBEDDING.md explains how. */
 #ifndef MENCIUS_H
 #define MENCIUS_H
 
@@ -18,28 +18,33 @@ extern "C" {
 #endif
 
 struct mencius_answer {
-    uint64_t status;  /* the exit status, as docs/FORMATS.md has it; 5 also where there was no memory for the texts */
-    uint64_t printed; /* how many bytes go to standard output */
-    uint64_t said;    /* how many bytes go to standard error */
-    uint64_t asked;   /* 1 where the input was read, else 0 */
+    uint64_t status;  /* the exit status (docs/FORMATS.md); also 5 if there was no memory for the texts */
+    uint64_t printed; /* the length of the text for standard output, in bytes */
+    uint64_t said;    /* the length of the text for standard error, in bytes */
+    uint64_t asked;   /* 1 if the input was read, otherwise 0 */
 };
 
-/* `words` are the arguments behind the program's name, each with a zero byte behind it: "replay\0--strict\0" is 16
- * bytes. `input` is standard input. A length is how many bytes stand behind its pointer, and a room how many may be
- * written there; neither is more than PTRDIFF_MAX. No pointer may be null, not even for no bytes. What is written to, both
- * rooms and the answer, may overlap nothing else that is handed in. What is read, the words and the input, may be anything
- * and of any length, and must not change before the call returns.
+/* Runs the program once.
  *
- * `printed` gets what goes to standard output, and `said` what goes to standard error, each where it has room for the
- * whole of it; else it stays as it is. Then call again with as much room as the answer says: the same call gives the
- * same bytes again. */
+ * `words` contains the arguments after the name of the program. A zero byte ends each argument. For example,
+ * "replay\0--strict\0" has 16 bytes. `input` is the standard input. Both may contain any bytes. They must not change
+ * before the call returns.
+ *
+ * The call writes the text for standard output to `printed`, and the text for standard error to `said`. It writes a
+ * text only if the whole text fits, and otherwise leaves that buffer unchanged. If a text did not fit, call again with
+ * the sizes that the answer gives. The same call produces the same bytes again.
+ *
+ * `words_length` and `input_length` are numbers of bytes. `printed_room` and `said_room` are the sizes of the output
+ * buffers, in bytes. None of the four may exceed PTRDIFF_MAX. No pointer may be null, not even for 0 bytes. The two
+ * output buffers and the answer must not overlap each other, the words or the input. */
 void mencius_call(const uint8_t *words, size_t words_length, const uint8_t *input, size_t input_length,
                   uint8_t *printed, size_t printed_room, uint8_t *said, size_t said_room,
                   struct mencius_answer *answer);
 
-/* `input` is a scenario of `replay`. `printed` gets what each server knows after its events: a line for each refused
- * event, and then for each server its line of the report and a line for each instance that it heard of, as
- * docs/EMBEDDING.md has them. All else is as of mencius_call with the argument `trace`. */
+/* Writes to `printed` what each server knows after the events of `input`, a scenario of `replay`. The text begins with
+ * a line for each refused event. For each server, it then has a line of the report, and a line for each instance that
+ * the server heard of. docs/EMBEDDING.md describes these lines. In all other respects, the call works as mencius_call
+ * does with the argument `trace`. */
 void mencius_state(const uint8_t *input, size_t input_length, uint8_t *printed, size_t printed_room, uint8_t *said,
                    size_t said_room, struct mencius_answer *answer);
 

@@ -1,8 +1,11 @@
-"""The program from Python: mencius.call(["replay", "--strict"], b'{"version":1,..}') gives (status, printed, said).
+"""Calls the program from Python: mencius.call(["replay", "--strict"], b'{"version":1,..}') returns (status, printed,
+said). Build the library first:
 
     cc -shared -o libmencius.so -Wl,--whole-archive libmencius_exports.a -Wl,--no-whole-archive liblibc_c.a
 
-As a program it does what mencius does: MENCIUS_LIBRARY=libmencius.so python3 mencius.py replay < SCENARIO.
+This file is also a program that does the same as mencius. MENCIUS_LIBRARY names the library:
+
+    MENCIUS_LIBRARY=libmencius.so python3 mencius.py replay < SCENARIO
 """
 import ctypes
 import os
@@ -20,7 +23,7 @@ _call.argtypes = [ctypes.c_char_p, ctypes.c_size_t] * 2 + [ctypes.c_void_p, ctyp
 
 
 def call(arguments, data=b""):
-    """The status, the standard output and the standard error of a call of the program."""
+    """Calls the program, and returns its status, its standard output and its standard error."""
     words = b"".join(os.fsencode(word) + b"\0" for word in arguments)
     data, answer, rooms = bytes(data), Answer(), (65_536, 4_096)
     while True:

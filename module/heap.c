@@ -1,8 +1,8 @@
-// The heap that the proved code takes its memory from: blocks of powers of two, kept in free lists.
+// The heap of the proved code. Its blocks have sizes that are powers of two. Each size has a list of free blocks.
 typedef unsigned long u64; typedef unsigned char u8;
 struct tried { u64 ok; void *p; };
 extern u8 __heap_base;
-static u8 none;                      // what a refused growth points to
+static u8 none;                      // the target of the pointer that a failed allocation returns
 static u8 *top; static void *lists[64];
 static u64 end(void) { return (u64)__builtin_wasm_memory_size(0) << 16; }
 static int class_of(u64 n) { u64 all = n + 16; int k = 5; while ((1ul << k) < all) k++; return k; }
@@ -15,7 +15,7 @@ static void *take(u64 n) {
   u64 size = 1ul << k;
   while ((u64)top + size > end()) {
     u64 want = ((u64)top + size - end() + 65535) >> 16; if (want < 64) want = 64;
-    // Where nothing grows that is -1, of which the lowering to 32 bits leaves the lower half.
+    // A failure is -1. Lowering to 32 bits keeps only the lower half of it.
     if ((unsigned)__builtin_wasm_memory_grow(0, want) == ~0u) return 0;
   }
   b = top; top += size; *(u64 *)b = k; return b + 16;
@@ -32,7 +32,7 @@ struct tried rattle_realloc(u8 *p, u64 kept, u64 n, u64 a) {
   __builtin_memcpy(q, p, kept < n ? kept : n); give(p); return (struct tried){1, q};
 }
 void rattle_dealloc(u8 *p) { give(p); }
-// For the host: room for a scenario and a report.
+// The host allocates and frees its buffers with these, for example for a scenario and a report.
 #define EXPORT(name) __attribute__((export_name(#name)))
 EXPORT(mencius_room) void *mencius_room(u64 n) { return take(n); }
 EXPORT(mencius_give) void mencius_give(u8 *p) { give(p); }

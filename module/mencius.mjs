@@ -1,25 +1,25 @@
 #!/usr/bin/env node
-// The program `mencius` by node: the proved code, as the WebAssembly module beside this file.
+// Runs the program `mencius` in node. The proved code is in the WebAssembly module next to this file.
 //
-//     node mencius.mjs replay|trace|draw|check|judge|run [OPTIONS] < INPUT      as mencius does
+//     node mencius.mjs replay|trace|draw|check|judge|run [OPTIONS] < INPUT
 //
-// A run has no threads: its workers take their turns one after the other.
+// This is the command line of mencius. A run has no threads, so its workers take their turns one after the other.
 import { fstatSync, readFileSync, readSync, realpathSync, writeSync } from 'node:fs';
 import { fileURLToPath } from 'node:url';
 
-const MOST = 16_777_217; // one byte more than the longest scenario, which is as much as the program reads of one
-const MOST_OF_A_LOG = 2 ** 31; // a log has no greatest length, so no verdict is given on the front of a longer one
-const MOST_OF_A_LINE = 1_024; // of a log
+const MOST = 16_777_217; // bytes that are read of a scenario: one more than the longest scenario has
+const MOST_OF_A_LOG = 2 ** 31; // bytes; a log of this length gets NoMemory, and its first part gets no verdict
+const MOST_OF_A_LINE = 1_024; // bytes of a line of a log
 const bytes = readFileSync(process.env.MENCIUS_MODULE || fileURLToPath(new URL('mencius.wasm', import.meta.url)));
 let exports;
 
-// The module, started where it is not; it is started anew after a call that trapped.
+// The exports of the module. Starts the module at the first call, and again after a call that trapped.
 function module() {
   exports ??= new WebAssembly.Instance(new WebAssembly.Module(bytes), {}).exports;
   return exports;
 }
 
-const wide = BigInt; // sizes and addresses are of 64 bits, also where the memory was lowered to 32
+const wide = BigInt; // sizes and addresses have 64 bits, even though the memory was lowered to 32
 const sleep = () => Atomics.wait(new Int32Array(new SharedArrayBuffer(4)), 0, 0, 5);
 const noMemory = () => { throw new RangeError('the module has no memory'); };
 const bytesAt = (at, length) => new Uint8Array(module().memory.buffer, Number(at), length);
@@ -29,15 +29,15 @@ function room(length) {
   return Number(at) === 0 ? noMemory() : at;
 }
 
-// Room in the module's memory, with these bytes.
+// Copies these bytes to the memory of the module, and returns their address.
 function put(bytes) {
   const at = room(bytes.length);
   bytesAt(at, bytes.length).set(bytes);
   return at;
 }
 
-// One call of an export with these bytes, and so much room for both texts: the answer's four numbers, and the texts
-// where they fit.
+// Calls an export with these inputs, and with buffers of these sizes for both texts. Returns the numbers of the answer,
+// and the texts if both fit.
 function call(name, inputs, printedRoom, saidRoom) {
   const x = module();
   const given = inputs.map(bytes => [put(bytes), wide(bytes.length)]);
@@ -51,8 +51,8 @@ function call(name, inputs, printedRoom, saidRoom) {
   return { status, asked: asked !== 0, lengths: [printed, said], texts };
 }
 
-// What an export answers to these bytes, the last of which are a scenario or a log. The text of a scenario mostly takes
-// at most eight times its bytes; a verdict is one line.
+// Calls an export with these inputs. The last input is a scenario or a log. The output for a scenario is rarely longer
+// than eight times the scenario, so `times` is 8. The output for a log is one line, so `times` is 0.
 function ask(name, inputs, times = 8) {
   try {
     let { status, asked, lengths, texts } = call(name, inputs, 65_536 + times * inputs.at(-1).length, 4_096);
@@ -66,8 +66,8 @@ function ask(name, inputs, times = 8) {
   }
 }
 
-// The program, called with these arguments and this input: its status, its texts, and whether it read the input.
-// An argument is a string or its bytes.
+// Calls the program with these arguments and this input. Returns its status, both texts, and whether it read the input.
+// An argument is a string or bytes.
 export function mencius(args, input = new Uint8Array(0)) {
   const words = Buffer.concat(args.flatMap(word => [Buffer.from(word), Buffer.alloc(1)]));
   return ask('mencius_call', [words, input], isJudge(args) ? 0 : 8);
@@ -75,12 +75,12 @@ export function mencius(args, input = new Uint8Array(0)) {
 
 const isJudge = args => args.length > 0 && Buffer.from(args[0]).equals(Buffer.from('judge'));
 
-// What each server knows after this scenario of `replay`, as docs/EMBEDDING.md tells ("What servers know").
+// What each server knows after this scenario of `replay`. See docs/EMBEDDING.md, "What servers know".
 export function state(input) {
   return ask('mencius_state', [input]);
 }
 
-// Standard input to its end or to so many bytes, and whether reading failed.
+// Reads standard input to its end, or up to `most` bytes. Also returns whether reading failed.
 function readInput(most) {
   const parts = [];
   for (let length = 0; length < most;) {
@@ -100,21 +100,21 @@ function readInput(most) {
   return [Buffer.concat(parts), false];
 }
 
-// Whether standard input may still grow while it is read.
+// Whether standard input may grow while it is read.
 function isOpen() {
   const input = fstatSync(0);
   return !input.isFile() && !input.isDirectory();
 }
 
-// Judges a log while it comes: what is there of it in whole lines, and this again and again, with a pause in between as
-// long as the last time took. A broken promise or a bad line among these is the verdict on the whole, whatever comes.
+// Judges a log while it arrives. It repeatedly judges all whole lines that have arrived. After each judgement, it pauses
+// for as long as the judgement took. A broken promise or a bad line is final, because later lines do not change it.
 function judgeAsItComes(args) {
   let log = Buffer.allocUnsafe(65_536), length = 0, pause = 0, timer;
   return new Promise(resolve => {
     const look = isWhole => {
       timer = undefined;
       const lines = log.subarray(0, length).lastIndexOf(10) + 1;
-      // A line that is too long need not have an end.
+      // A line that is too long is judged even before its end arrives.
       const end = isWhole || length - lines > MOST_OF_A_LINE ? length : lines;
       const begin = performance.now();
       const answer = mencius(args, log.subarray(0, end));
@@ -132,7 +132,7 @@ function judgeAsItComes(args) {
   });
 }
 
-// Whether all bytes could be written.
+// Writes the bytes, and returns whether all of them could be written.
 function write(stream, bytes) {
   for (let at = 0; at < bytes.length;) {
     try {
@@ -145,7 +145,7 @@ function write(stream, bytes) {
   return true;
 }
 
-// The arguments, as bytes where the system tells them: node makes texts of them, of which each is UTF-8.
+// The arguments. Node decodes them as UTF-8, which replaces other bytes. In that case, /proc has the original bytes.
 function readArguments() {
   const args = process.argv.slice(2);
   if (args.length === 0 || !args.some(word => word.includes('\ufffd'))) return args;
@@ -157,13 +157,13 @@ function readArguments() {
   }
 }
 
-// The program's own words and status where reading, writing or memory fails, which are the host's here.
+// Reports a failure of reading, writing or memory, in the words of the program. Returns the exit status.
 function failed(line, status = 4) {
   write(2, Buffer.from(`mencius: fault ${line}\n`));
   return status;
 }
 
-// Prints and says what a call answered, and answers its status.
+// Writes both texts of an answer, and returns its status.
 function tell(answer) {
   if (!write(1, answer.printed)) return failed('25 WriteFailed');
   write(2, answer.said);
@@ -182,7 +182,7 @@ async function main(args) {
   return tell(answer);
 }
 
-// Whether this file was started, and not imported: the first word may be anything where `node -e` imports it.
+// Whether this file was started and not imported. If `node -e` imports it, the first argument may be any word.
 function isProgram() {
   try {
     return fileURLToPath(import.meta.url) === realpathSync(process.argv[1]);
@@ -191,5 +191,5 @@ function isProgram() {
   }
 }
 
-// A log that is judged need not have ended.
+// Exits at once, because the verdict may come before the end of the log.
 if (isProgram()) main(readArguments()).then(status => process.exit(status));

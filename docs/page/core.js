@@ -1,8 +1,8 @@
 'use strict';
-// The proved code, as WebAssembly. A call takes arguments and standard input, and gives what the program would print,
-// say and end with. Nothing of the protocol is computed outside of it.
+// The proved code, as WebAssembly. A call takes arguments and standard input. It returns the standard output, the
+// standard error and the status of the program. No other code of the page computes anything of the protocol.
 
-// Text that is held in base64, and packed by gzip.
+// Decodes a text in base64, and decompresses the result with gzip.
 async function unpacked(text) {
   const packed = Uint8Array.from(atob(text), letter => letter.charCodeAt(0));
   const stream = new Blob([packed]).stream().pipeThrough(new DecompressionStream('gzip'));
@@ -10,7 +10,7 @@ async function unpacked(text) {
 }
 
 class Core {
-  // `whenStopped` is told why the module stopped by itself; it is started anew then.
+  // If the module traps or runs out of memory, it is started again, and `whenStopped` is called with the reason.
   constructor(module, whenStopped) {
     this.module = module;
     this.whenStopped = whenStopped;
@@ -25,7 +25,7 @@ class Core {
 
   room(length) {
     const at = this.start().mencius_room(BigInt(length + 1));
-    if (Number(at) === 0) throw new RangeError('there is no memory');
+    if (Number(at) === 0) throw new RangeError('out of memory');
     return at;
   }
 
@@ -39,7 +39,8 @@ class Core {
     return at;
   }
 
-  // One call with so much room for both texts; a text that does not fit is null, and the call says how long it is.
+  // Makes one call with buffers of these sizes. Returns the lengths of both texts, and the texts or null if one of them
+  // does not fit.
   attempt(words, input, rooms) {
     const places = [this.put(words), this.put(input), ...rooms.map(room => this.room(room)), this.room(32)];
     const [a, b, out, err, answer] = places;
@@ -53,8 +54,8 @@ class Core {
     return { status, lengths: [printed, said], texts };
   }
 
-  // The texts and the status of a call. A first attempt has the room that did for this task so far, and a second one as
-  // much as the first says.
+  // The texts and the status of a call. The first attempt uses the buffer size that was enough for this task so far. If
+  // it is too small, the second attempt uses the lengths that the first one returned.
   answer(args, input) {
     const coder = new TextEncoder(), task = args[0];
     const words = coder.encode(args.map(word => word + '\0').join('')), bytes = coder.encode(input);
@@ -66,8 +67,8 @@ class Core {
     return { status: found.status, printed, said };
   }
 
-  // The program, called with these arguments and this input: its status, what it prints, and what it says. Where the
-  // module stops by itself, it is started anew and called once more.
+  // Calls the program with these arguments and this input. Returns its status, its standard output and its standard
+  // error. If the module stops, it is started again and called a second time.
   call(args, input) {
     try {
       return this.answer(args, input);
@@ -91,7 +92,7 @@ class Core {
   }
 }
 
-// The words of a fault, without the line of its number where there are others.
+// The words of a fault. The line with its number is left out if another line follows.
 function wordsOf(said) {
   const lines = said.trimEnd().split('\n');
   return (lines[1] ?? lines[0]).replace(/^mencius: /, '');

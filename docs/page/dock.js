@@ -1,23 +1,24 @@
 'use strict';
-// Below each lane: the server's messages that are under way, what may be asked of it, and what it knows.
+// The part below each lane: the messages on their way to the server, its buttons, and its knowledge.
 
-// So many messages of an inbox are shown at first, the newest of them.
+// At first, an inbox shows only this many of its messages, the newest ones.
 const SHOWN = 7;
-// So many instances a server's table has, the latest of them.
+// The table of a server shows at most this many instances, the latest ones.
 const INSTANCES = 6;
-// Whose inbox is shown whole, who shows what it heard already, and who is about to be asked for something.
+// For each server, whether its whole inbox is shown, and whether the messages that it heard are shown. `ask` is the
+// server with an open form for a command, or null.
 const dock = { isWhole: {}, isAgain: {}, ask: null };
 
 const ownerOf = (instance, servers) => `owner${instance % servers}`;
 const written = value => value ?? '–';
 
-// What the events so far came to, and the replies, beside the servers.
+// The box next to the servers: the result of the last event, some counts, and the replies.
 function summary(now) {
   const { cursor, schedule, report, trace } = now, event = trace.events.at(-1);
   const said = cursor === 0 ? 'nothing has happened yet' : `after event ${cursor - 1}`;
   const box = el('div', { class: 'summary' }, el('h2', {}, said));
   if (event?.refusal) {
-    box.append(el('p', { class: 'bad' }, `refused: ${event.refusal}, since ${REFUSALS[event.refusal]}`));
+    box.append(el('p', { class: 'bad' }, `refused: ${event.refusal}, because ${REFUSALS[event.refusal]}`));
   }
   const counts = [count(report.accepted, 'event'), count(report.messages, 'message')];
   const common = saidOf(schedule).filter(([name]) => COMMON.includes(name)).map(([name, value]) => `${name} ${value}`);
@@ -31,8 +32,8 @@ function summary(now) {
   }
   const later = schedule.events.length - cursor;
   if (later > 0) {
-    const title = 'take out all events behind the cursor';
-    box.append(el('button', { 'data-do': 'cut', title }, `drop ${count(later, 'later event')}`));
+    const title = 'take out all events after the cursor';
+    box.append(el('button', { 'data-do': 'cut', title }, `take out ${count(later, 'later event')}`));
   }
   return box;
 }
@@ -50,15 +51,15 @@ function card(now, server) {
     table(trace, server, schedule.servers));
 }
 
-// ---- messages under way
+// ---- messages on their way
 
 function inbox(now, server) {
   const { trace } = now, isDue = ({ to }) => to === server;
   const due = trace.unheard.filter(isDue).map(({ number }) => trace.messages[number]);
   const hidden = dock.isWhole[server] ? 0 : Math.max(0, due.length - SHOWN);
-  const list = el('ul', { class: 'inbox', 'aria-label': `messages under way to server ${server}` });
-  if (due.length === 0) list.append(el('li', { class: 'soft' }, 'no message under way'));
-  if (hidden > 0) list.append(el('li', {}, el('button', { 'data-do': `whole ${server}` }, `${hidden} older ones ..`)));
+  const list = el('ul', { class: 'inbox', 'aria-label': `messages on their way to server ${server}` });
+  if (due.length === 0) list.append(el('li', { class: 'soft' }, 'no message on its way'));
+  if (hidden > 0) list.append(el('li', {}, el('button', { 'data-do': `whole ${server}` }, `show ${hidden} older ..`)));
   list.append(...due.slice(hidden).map(message => messageRow(now, message, server)));
   if (dock.isAgain[server]) {
     list.append(...trace.heardBy(server).slice(-SHOWN).map(message => messageRow(now, message, server, true)));
@@ -68,7 +69,7 @@ function inbox(now, server) {
 
 function messageRow(now, { number, kind, from, instance, label }, server, isAgain = false) {
   const said = `message ${number}, ${kind} ${label}, from server ${from} to server ${server}`;
-  const deliver = `deliver ${isAgain ? 'once more ' : ''}${said}`;
+  const deliver = `deliver ${isAgain ? 'again ' : ''}${said}`;
   return el('li', { class: `${ownerOf(instance, now.schedule.servers)}${isAgain ? ' again' : ''}`, 'data-m': number },
     el('button', { class: 'message', 'data-do': `deliver ${number} ${server}`, title: deliver, 'aria-label': deliver },
       el('b', {}, `${number} ${kind}`), ` ${label} `, el('i', {}, isAgain ? 'again' : `←${from}`)),
@@ -79,7 +80,7 @@ function loseButton(event, said) {
   return el('button', { class: 'lose', 'data-do': event, title: said, 'aria-label': said }, '×');
 }
 
-// ---- what else may happen at a server; a button is grey where the proved code refuses the event
+// ---- buttons for other events; a button is grey if the proved code refuses its event
 
 function actions({ schedule, trace }, server) {
   const others = Array.from({ length: schedule.servers }, (_, other) => other).filter(other => other !== server);
@@ -99,21 +100,21 @@ function askForm(schedule, server) {
   return el('form', { class: 'ask', 'data-server': server },
     el('input', { value: commandFor(schedule, server), 'aria-label': said, spellcheck: 'false' }),
     el('button', {}, 'submit'),
-    el('button', { type: 'button', 'data-do': 'ask -1', 'aria-label': 'no command' }, '×'),
+    el('button', { type: 'button', 'data-do': 'ask -1', 'aria-label': 'cancel' }, '×'),
     el('small', {}, command));
 }
 
 function askButton(server) {
-  return el('button', { 'data-do': `ask ${server}`, title: `a client asks server ${server}` }, 'submit ..');
+  return el('button', { 'data-do': `ask ${server}`, title: `submit a command to server ${server}` }, 'submit ..');
 }
 
 function againButton(server) {
-  const title = 'messages that it heard already, to be delivered once more';
+  const title = 'show messages that this server has heard, to deliver them again';
   const isPressed = String(Boolean(dock.isAgain[server]));
   return el('button', { 'data-do': `again ${server}`, 'aria-pressed': isPressed, title }, 'again');
 }
 
-// The next command of the client who asks at this server: its first own number that is free.
+// The next command of the client of this server. Its number is the first one that the client has not used.
 function commandFor({ events }, server) {
   const client = server + 1, submissions = events.filter(event => event.startsWith('submit'));
   const used = new Set(submissions.map(event => event.split(' ')[2]));
@@ -122,7 +123,7 @@ function commandFor({ events }, server) {
   return `${client}.${number} set a ${['x', 'y', 'z'][used.size] ?? `v${used.size}`}`;
 }
 
-// ---- what a server knows of the instances, the latest ones
+// ---- the table of what a server knows about the latest instances
 
 const COLUMNS = [
   ['', 'instance'], ['promised', 'the greatest ballot that it promised or accepted'],
@@ -139,7 +140,7 @@ function table(trace, server, servers) {
 }
 
 function rowsOf(instance, { promised, vote, tried, promises, acceptances, proposal, learned }, servers) {
-  // Where a card is too narrow for a vote, its ballot goes below.
+  // Two parts, because a narrow card shows the ballot of a vote below its value.
   const voted = vote ? [vote.value, `@b${vote.ballot}`].map(part => el('span', {}, part)) : [written(null)];
   const first = el('tr', {}, el('th', { scope: 'row', class: ownerOf(instance, servers) }, `i${instance}`),
     el('td', {}, written(promised ? `b${promised}` : null)), el('td', { class: 'vote' }, ...voted),
@@ -159,7 +160,7 @@ function fillDock(now) {
   if (dock.ask !== null) $('dock').querySelector('.ask input')?.select();
 }
 
-// ---- the focus, which a new dock would lose
+// ---- the focus is restored, because a new dock would lose it
 
 function focusedPlace() {
   const focused = document.activeElement?.closest?.('#dock [data-do]');

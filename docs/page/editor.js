@@ -1,7 +1,7 @@
 'use strict';
-// Texts that are written here: the schedule, and the log of a store. The program says what is wrong, and where.
+// The two texts that a user can edit: the schedule, and the log of a store. The program reports mistakes in them.
 
-// Marks a place in a text area, by a text of the same shape behind it.
+// Marks a place in a text area. A copy of the text under the area contains the mark.
 function mark(area, place) {
   const behind = area.previousElementSibling, text = area.value;
   behind.replaceChildren();
@@ -23,13 +23,13 @@ function showVerdict(id, text, isBad) {
 
 // ---- the schedule
 
-// Checks what stands in the editor, marks the mistake, and answers the schedule where there is none.
+// Checks the text of the editor. Marks a mistake, or returns the schedule if there is none.
 function readEditor(core) {
   const area = $('source'), answer = core.call(['check'], area.value);
   if (answer.status === 0 && / workers /.test(answer.printed)) {
     mark(area, null);
     const kind = `${answer.printed.trim()}: a run.`;
-    showVerdict('verdict', `${kind} Its workers choose the events: the button below has one drawn.`);
+    showVerdict('verdict', `${kind} Its workers choose the events. The button below draws a schedule from this run.`);
     return null;
   }
   const words = answer.status === 0 ? answer.printed.trim() : wordsOf(answer.said);
@@ -41,7 +41,7 @@ function readEditor(core) {
 
 // ---- a schedule that a worker draws
 
-// The plan of the form: two commands of a client for each server, or the run that stands in the editor.
+// The run of the form: two commands of a client for each server.
 function planOf(schedule) {
   const commands = Array.from({ length: schedule.servers }, (_, server) =>
     [`${server + 1}.0 set a v${server}`, `${server + 1}.1 get a`]);
@@ -50,7 +50,8 @@ function planOf(schedule) {
   return `{${fieldsOf([['version', 1], ...saidOf(schedule), ...course])},\n "commands": ${JSON.stringify(commands)}}`;
 }
 
-// The schedule that a worker draws for the members of this one.
+// The schedule that a worker draws from the run in the editor. Without a run there, the form and the members of the
+// former schedule give the run.
 function drawByWorker(core, former) {
   const isRun = / workers /.test(core.call(['check'], $('source').value).printed);
   const plan = isRun ? $('source').value : planOf(former);
@@ -61,30 +62,30 @@ function drawByWorker(core, former) {
     return null;
   }
   const schedule = readScenario(answer.printed.split('\n')[0]);
-  showVerdict('run-verdict', `the worker chose ${count(schedule.events.length, 'event')} that the cluster took`);
+  showVerdict('run-verdict', `the worker chose ${count(schedule.events.length, 'event')} that the cluster accepted`);
   return schedule;
 }
 
 // ---- the log of a store
 
-// What a violation is, in words; `w` are the words behind its promise's name.
+// The description of each violation. `w` contains the words after the name of the promise.
 const VIOLATIONS = {
-  OneCommand: w => `Another command was submitted as ${w[1]} before. An ID names one command.`,
-  Submitted: w => `Command ${w[1]} is executed or answered here, and nobody submitted it before.`,
+  OneCommand: w => `Another command was submitted as ${w[1]} before. An ID names only one command.`,
+  Submitted: w => `Command ${w[1]} is executed or answered here, but no earlier line submits it.`,
   Once: w => `Server ${w[1]} executes command ${w[5]} again, at place ${w[3]} of its history.`,
-  SameOrder: w => `Server ${w[1]} executes ${w[7]} at place ${w[3]} of its history, where another server executed`
-    + ` ${w[5]}. The histories would never agree again.`,
-  RealTime: w => `Server ${w[1]} executes ${w[5]} at place ${w[3]} before ${w[7]}, which had its reply already when`
-    + ` ${w[5]} was first submitted.`,
-  OneReply: w => `Command ${w[1]} is answered ${inWords(w[5])}, and was answered ${inWords(w[3])} before.`,
-  RightReply: w => `Command ${w[1]} stands at place ${w[3]}, where a map that executes the commands before it answers`
-    + ` ${inWords(w[5])}, and not ${inWords(w[7])}.`,
-  RightLookup: w => `Reader ${w[1]} found ${inWords(w[9])} at key ${w[3]}, which stands there after none of the first`
-    + ` ${w[5]} to ${w[7]} commands. It has seen ${w[5]} at least.`,
+  SameOrder: w => `Server ${w[1]} executes ${w[7]} at place ${w[3]} of its history, but another server executed`
+    + ` ${w[5]} at that place. The histories can never agree again.`,
+  RealTime: w => `Server ${w[1]} executes ${w[5]} at place ${w[3]}, before ${w[7]}. But ${w[7]} already had its reply`
+    + ` when ${w[5]} was first submitted.`,
+  OneReply: w => `The reply to command ${w[1]} is ${inWords(w[5])}, but an earlier reply was ${inWords(w[3])}.`,
+  RightReply: w => `Command ${w[1]} is at place ${w[3]}. A map that executes the history replies`
+    + ` ${inWords(w[5])} there, and not ${inWords(w[7])}.`,
+  RightLookup: w => `Reader ${w[1]} found ${inWords(w[9])} at key ${w[3]}, but the key never held that after the first`
+    + ` ${w[5]} to ${w[7]} commands. The reader has seen at least ${w[5]} commands.`,
 };
-const inWords = answer => answer === 'none' ? 'that nothing is there' : `“${answer.slice(1)}”`;
+const inWords = answer => answer === 'none' ? 'no text' : `“${answer.slice(1)}”`;
 
-// What an observer of this schedule would have seen, as a log.
+// The log that an observer of this schedule would write.
 function logOf({ events }) {
   const seen = [];
   for (const { text, refusal, lines } of events) {
@@ -109,11 +110,11 @@ function judgeLog(core) {
     : badLineInWords(said);
 }
 
-// Of a log that was not judged to its end: what a mistake in it means, where it is one in a line.
+// Explains a mistake in a line of a log. For other faults, the text is empty.
 function badLineInWords(said) {
   if (!said.startsWith('line ')) return '';
-  return said.endsWith('ends in it') ? 'The last line has no end, so nothing is said of the store: put a line break behind it.'
-    : 'This line is no observation, so nothing is said of the store.';
+  return said.endsWith('ends in it') ? 'The last line has no end, so there is no verdict. Put a line break after it.'
+    : 'This line is not an observation, so there is no verdict.';
 }
 
 function brokenInWords([, line, promise, ...words]) {
@@ -122,8 +123,8 @@ function brokenInWords([, line, promise, ...words]) {
 
 function keptInWords(w) {
   const repliesOf = number => `${number} ${number === 1 ? 'reply' : 'replies'}`;
-  const open = w[10] === '0' ? '' : ` Whether ${repliesOf(+w[10])} to commands of no history`
-    + ` ${w[10] === '1' ? 'is' : 'are'} right was not judged.`;
+  const open = w[10] === '0' ? '' : ` Whether ${repliesOf(+w[10])} to commands that are in no history`
+    + ` ${w[10] === '1' ? 'is' : 'are'} right could not be judged.`;
   return `All eight promises are kept: ${count(+w[2], 'server')} executed ${w[6]} of ${count(+w[4], 'command')},`
-    + ` ${repliesOf(w[8] - w[10])} and ${count(+w[12], 'look-up')} are right.${open}`;
+    + ` ${repliesOf(w[8] - w[10])} and ${count(+w[12], 'lookup')} are right.${open}`;
 }

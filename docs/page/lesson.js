@@ -1,6 +1,6 @@
 'use strict';
-// The tutorial's steps, which docs/page/build takes out of docs/TUTORIAL.md. A step is found where the trace of the
-// events up to the cursor says all that its answer names.
+// The steps of the tutorial. docs/page/build takes them from docs/TUTORIAL.md. The answer of a step is found once the
+// trace of the events up to the cursor contains everything that the answer names.
 
 const lesson = { step: 0, found: new Set() };
 
@@ -20,11 +20,11 @@ function showStep(number) {
   $('step').innerHTML = step ? stepText(step, number) : DATA.welcome;
 }
 
-// The texts of steps are HTML that the build made.
+// docs/page/build made the texts of the steps, as HTML.
 function stepText(step, number) {
   const following = DATA.lessons[number];
   const next = following ? `<button data-step="${number + 1}">next: ${following.title}</button>` : '';
-  const press = step.schedule.events.length ? '<p class="soft">Press <kbd>→</kbd> or ▶ to go through it.</p>' : '';
+  const press = step.schedule.events.length ? '<p class="soft">Press <kbd>→</kbd> or ▶ to step through it.</p>' : '';
   return `<h2>${number}. ${step.title}</h2>${step.before}${press}${step.after}
     <div class="question"><p><b>Find out:</b> ${step.question}</p><p id="found" class="verdict" role="status"></p>
     <details><summary>answer</summary>${step.answer}</details></div>
@@ -33,7 +33,7 @@ function stepText(step, number) {
 
 const isFound = (step, lines) => step.goals.every(goal => lines.some(line => ` ${line} `.includes(` ${goal} `)));
 
-// Tells the reader, once, that the question is answered by what was clicked.
+// Shows that the user found the answer of the current step, and opens it.
 function lookForAnswer(trace) {
   const step = DATA.lessons[lesson.step - 1];
   if (!step || !isFound(step, linesOf(trace))) return;

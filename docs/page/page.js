@@ -1,9 +1,9 @@
 'use strict';
-// The page: one schedule, a cursor in it, and what is shown of the events before the cursor.
+// The page contains a schedule and a cursor in it. It shows the result of the events before the cursor.
 
 const $ = id => document.getElementById(id);
 const DATA = JSON.parse($('data').textContent);
-// What the servers have in common.
+// The fields that all servers share, such as beta.
 const COMMON = Object.keys(DATA.members).filter(name => name !== 'servers');
 for (const [name, scenario] of Object.entries(DATA.examples)) DATA.examples[name] = scheduleOf(scenario);
 for (const step of DATA.lessons) step.schedule = scheduleOf(step.schedule);
@@ -16,7 +16,7 @@ const page = {
   now: null, whole: null, edited: null, dice: diceOf(1),
 };
 
-// A generator for steps at random, of this page alone.
+// A random number generator for the random steps. Only the page uses it.
 function diceOf(seed) {
   let state = seed;
   return sides => {
@@ -39,9 +39,9 @@ function later(name, wait, action) {
   later[name] = setTimeout(action, wait);
 }
 
-// ---- the schedule and the cursor: all changes come through here
+// ---- all changes of the schedule and the cursor
 
-// A click asks for the trace of the same schedule several times, so the last ones are kept.
+// A click needs the trace of the same schedule several times, so the latest traces are kept.
 const TRACES_KEPT = 4;
 const traces = new Map();
 
@@ -86,7 +86,7 @@ function undo(from, to) {
   become(state.schedule, state.cursor, false);
 }
 
-// Puts an event in at the cursor. Where it is what comes next, it is stepped to.
+// Inserts an event at the cursor. If the next event of the schedule is the same one, it only moves the cursor.
 function add(event) {
   const { schedule, cursor, now } = page;
   if (schedule.events[cursor] === event) { go(cursor + 1); return; }
@@ -96,9 +96,9 @@ function add(event) {
   const made = withInserted(schedule, cursor, event, now.trace.messages.length, sent);
   if (!become(made.schedule, cursor + 1)) return;
   const { refusal } = tried.trace.events.at(-1);
-  if (refusal) say(`refused, since ${REFUSALS[refusal]}`);
-  else if (made.moved) say(`Put in at the cursor. ${count(made.moved, 'later event')} got new numbers of messages.`);
-  else if (cursor < schedule.events.length) say('Put in at the cursor; the later events stay.');
+  if (refusal) say(`Refused, because ${REFUSALS[refusal]}.`);
+  else if (made.moved) say(`Inserted at the cursor. ${count(made.moved, 'later event')} got new message numbers.`);
+  else if (cursor < schedule.events.length) say('Inserted at the cursor. The later events stay.');
 }
 
 function takeOut() {
@@ -107,18 +107,18 @@ function takeOut() {
   const { schedule, gone } = withRemoved(page.schedule, place, trace.events[place].firstMessage, trace.countOf(place));
   become(schedule, place);
   const some = gone.slice(0, 4).join(', ') + (gone.length > 4 ? ' ..' : '');
-  if (gone.length) say(`Taken out with it, since their message is gone: ${some}`);
+  if (gone.length) say(`These events were also taken out, because their message is gone: ${some}`);
 }
 
-// Opens a schedule that was read, if the program takes it; else says why not.
+// Opens a schedule if the program accepts it. Otherwise shows the reason.
 function open(schedule, cursor, isKept) {
   const answer = core.call(['check'], asScenario(schedule));
   if (answer.status === 0) return become(schedule, cursor ?? schedule.events.length, isKept);
-  say(`This is no schedule: ${wordsOf(answer.said)}`);
+  say(`This is not a schedule: ${wordsOf(answer.said)}`);
   return false;
 }
 
-// ---- an event at random, of those that the buttons have
+// ---- a random event, one of those that the buttons offer
 
 function randomEvent() {
   const { now, schedule, dice } = page, asked = refusableEvents(schedule.servers).filter(event => !refusalOf(event));
@@ -135,16 +135,16 @@ function addAtRandom(number) {
   for (let left = number; left > 0; left -= 1) add(randomEvent());
 }
 
-// ---- asking the proved code whether it would refuse an event
+// ---- whether the proved code would refuse an event
 
-// The events of this kind that buttons have.
+// The events of buttons that may be refused.
 function refusableEvents(servers) {
   const all = Array.from({ length: servers }, (_, server) => server);
   const suspicions = server => all.filter(other => other !== server).map(other => `suspect ${server} ${other}`);
   return all.flatMap(server => [`execute ${server}`, `retry ${server}`, ...suspicions(server)]);
 }
 
-// Why the event would be refused after those so far, or null.
+// The refusal of the event after the events before the cursor, or null if it would be accepted.
 function refusalOf(event) {
   const { now, schedule, cursor } = page;
   if (!(event in now.refusals)) {
@@ -155,7 +155,7 @@ function refusalOf(event) {
   return now.refusals[event];
 }
 
-// Asks for the buttons that are still to be asked, for a short while at a time.
+// Finds out which buttons are grey. It works for 12 ms at a time, so that the page stays responsive.
 function greyButtons() {
   const until = performance.now() + 12;
   for (const button of $('dock').querySelectorAll('[data-asked]')) {
@@ -167,7 +167,7 @@ function greyButtons() {
   }
 }
 
-// ---- showing
+// ---- what the page shows
 
 function show() {
   const { schedule, cursor, whole } = page, prefix = prefixOf(schedule, cursor);
@@ -202,7 +202,7 @@ function showBar() {
   $('example').value = Object.keys(DATA.examples).find(name => asScenario(DATA.examples[name]) === shown) ?? '';
 }
 
-// What an event did, for a screen reader.
+// The result of an event, for a screen reader.
 function inSentence({ text, refusal, lines }, place) {
   const came = refusal ? `refused, ${REFUSALS[refusal]}` : lines.join('; ') || 'nothing more';
   return `event ${place}, ${text}: ${came}`;
@@ -210,7 +210,7 @@ function inSentence({ text, refusal, lines }, place) {
 
 function showTab() {
   const { tab, schedule, now } = page;
-  // What somebody writes there is not taken away by a step.
+  // A step does not overwrite text that the user is editing.
   if (tab === 'editor' && page.edited !== schedule && document.activeElement !== $('source')) {
     page.edited = schedule;
     $('source').value = asFile(schedule);
@@ -235,7 +235,7 @@ function setTab(tab) {
   if (tab === 'judge') judgeLog(core);
 }
 
-// The address holds the schedule, as long as a link can.
+// Writes the schedule to the address, unless it is too long for a link.
 function keepAddress() {
   const link = asLink(page.schedule, page.cursor, lesson.step);
   history.replaceState(null, '', link ?? '#');
@@ -252,7 +252,7 @@ function hideHint() {
   $('hint').hidden = true;
 }
 
-// ---- beginning
+// ---- start
 
 function startStep(number) {
   showStep(number);
@@ -274,7 +274,7 @@ async function main() {
   try {
     const module = await WebAssembly.compile(await unpacked($('module').textContent));
     core = new Core(module, why =>
-      say(`The module stopped (${why}) and was started anew. Nothing of the schedule is lost.`));
+      say(`The module stopped (${why}) and was started again. The schedule is not lost.`));
     core.start();
   } catch (error) {
     document.body.textContent = `This browser could not start the program: ${error}`;

@@ -1,15 +1,16 @@
 'use strict';
-// The picture: what `mencius draw` makes of the schedule, cut to its lanes, with the events' texts in a column that
-// stays in sight, and the servers' names above. Stepping changes classes alone; more than some rows are drawn by parts.
+// The picture of the schedule, as `mencius draw` draws it, but only its lanes. A column with the texts of the events
+// stays in sight, and so do the names of the servers above. A step only changes classes. A long schedule is drawn in
+// parts.
 
-// So many events are drawn at once, and so many of them at least stand before and behind the cursor.
+// The number of events that are drawn at once, and the least number of them before and after the cursor.
 const DRAWN = 100;
 const AROUND = 20;
-// Where the picture's lanes begin, where the first one stands, and how far they are apart, as `mencius draw` has it.
+// Positions in a picture of `mencius draw`: its left and upper edge, the first lane, and the distance of the lanes.
 const LEFT = 296, TOP = 84, FIRST_LANE = 452, APART = 204, HALF_ROW = 12;
 const SMALLEST = 0.9;
-const EMPTY = 'Nothing has happened. Have a client ask for something, by “submit ..” below a server, or press R for'
-  + ' an event at random.';
+const EMPTY = 'Nothing has happened. Click “submit ..” below a server to submit a command, or press R for'
+  + ' a random event.';
 
 const picture = { drawn: null, svg: null, rows: [], zoom: 1, room: 800, width: 800, height: 0 };
 
@@ -23,7 +24,7 @@ function el(tag, attributes = {}, ...children) {
   return made;
 }
 
-// The first and the last of so many events around a cursor.
+// The first and the last of `size` events around a cursor.
 function partFor(cursor, length, size) {
   if (length <= size) return [0, length - 1];
   const first = Math.max(0, Math.min(cursor - Math.ceil(size / 2), length - size));
@@ -35,7 +36,7 @@ function isInPart({ first, last, size }, cursor, length) {
   return first <= Math.max(0, cursor - around) && last >= Math.min(length, cursor + around) - 1;
 }
 
-// What the program draws of the part around a cursor: fewer events where a picture of so many would be too large.
+// The program's picture of the part around a cursor. The part has fewer events if the picture would be too large.
 function drawnAround(core, schedule, cursor) {
   const scenario = asScenario(schedule);
   let answer, part, size = DRAWN;
@@ -47,7 +48,7 @@ function drawnAround(core, schedule, cursor) {
   return { answer, drawn: { schedule, first: part[0], last: part[1], size } };
 }
 
-// Draws the part around the cursor, unless it is there already. Says why where the program refuses to.
+// Draws the part around the cursor, unless it is already drawn. If the program refuses to draw it, shows the reason.
 function drawPicture(core, schedule, cursor) {
   const drawn = picture.drawn, length = schedule.events.length;
   if (drawn && drawn.schedule === schedule && isInPart(drawn, cursor, length)) return;
@@ -59,7 +60,7 @@ function drawPicture(core, schedule, cursor) {
     $('drawing').textContent = wordsOf(answer.said);
     return;
   }
-  // What is not in the page yet costs no layout.
+  // A template is not in the page yet, so these changes need no layout.
   const box = el('template');
   box.innerHTML = answer.printed;
   cutDrawing(box.content.querySelector('svg'), schedule);
@@ -70,7 +71,7 @@ function drawPicture(core, schedule, cursor) {
   fillRows(schedule, picture.drawn.first);
 }
 
-// Leaves the lanes of a drawn picture, and notes where its rows stand.
+// Removes everything except the lanes from a picture, and stores the positions of its rows.
 function cutDrawing(svg, schedule) {
   for (const part of svg.querySelectorAll('.foot, .key, .place, .what, :scope > title')) part.remove();
   const bottom = +/V(\d+)/.exec(svg.querySelector('.lane .line')?.getAttribute('d') ?? 'V80')[1];
@@ -88,12 +89,12 @@ function cutDrawing(svg, schedule) {
   picture.svg = svg;
 }
 
-// Notes how much room there is for a picture.
+// Stores the width that is available for a picture.
 function measure() {
   picture.room = $('stage').clientWidth - $('rows').offsetWidth;
 }
 
-// Sets the picture's size to the room that there is, within bounds, and all that stands by its lanes.
+// Fits the picture to the available width, within bounds, and aligns the names and cards with its lanes.
 function fitPicture(servers) {
   picture.zoom = Math.min(1, Math.max(SMALLEST, picture.room / picture.width));
   picture.svg.setAttribute('width', picture.width * picture.zoom);
@@ -122,12 +123,12 @@ function fillHeads(servers) {
   $('heads').replaceChildren(el('span', { class: 'corner' }, 'event'), ...heads);
 }
 
-// Makes pale what has not happened yet.
+// Makes everything pale that has not happened yet.
 function markParts(box, cursor) {
   for (const part of box.querySelectorAll('[data-e]')) part.classList.toggle('later', +part.dataset.e >= cursor);
 }
 
-// Marks what happened so far, and which event was the last.
+// Marks the events before the cursor, and the last one of them.
 function markCursor(cursor) {
   const here = picture.rows[cursor - 1 - picture.drawn.first];
   markParts($('picture'), cursor);
@@ -173,7 +174,7 @@ function eventAt(y) {
   return index < 0 ? null : picture.drawn.first + index;
 }
 
-// The explanation of marks and lines at the foot of every picture, for the help.
+// Copies the explanation of marks and lines, which is at the foot of every picture, to the help.
 function fillKey(core) {
   const { printed } = core.call(['draw'], asScenario(emptyOf({ servers: 1 })));
   const box = el('div');

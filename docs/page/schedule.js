@@ -1,8 +1,8 @@
 'use strict';
-// A schedule has the fields of DATA.members, which say what cluster it is of, and `events`, which are texts. It is never
-// changed: a new one takes its place.
+// A schedule has the fields of DATA.members, which describe its cluster, and `events`, which are texts. It never
+// changes. Instead, a new schedule replaces it.
 
-// The schedule that a scenario is, and one of no events with its members.
+// The schedule of a scenario, and a schedule without events that has its members.
 const scheduleOf = scenario => ({ ...membersOf(scenario), events: scenario.events });
 const emptyOf = scenario => scheduleOf({ ...scenario, events: [] });
 
@@ -11,12 +11,12 @@ function membersOf(scenario) {
   return Object.fromEntries(Object.entries(DATA.members).map(([name, { unsaid }]) => [name, scenario[name] ?? unsaid]));
 }
 
-// The fields of the members that have to be said: [name, value] of each.
+// The fields of the members that a scenario must contain, each as [name, value].
 function saidOf(schedule) {
   return Object.entries(membersOf(schedule)).filter(([name, value]) => value !== DATA.members[name].unsaid);
 }
 
-// The least version that has all operations of the events, as in the journal of a run.
+// The least version that contains all operations of the events. The journal of a run has this version too.
 function versionOf(events) {
   const { versions } = DATA.operations;
   const needed = event => versions[/^submit \d+ [\d.]+ (\w+) /.exec(event)?.[1]] ?? 1;
@@ -37,7 +37,7 @@ function asFile(schedule) {
 
 const fieldsOf = numbers => numbers.map(([name, value]) => `"${name}": ${value}`).join(', ');
 
-// A schedule out of the text of a scenario that the program has checked.
+// The schedule from the text of a scenario. The program must have checked the text.
 function readScenario(text) {
   return scheduleOf(JSON.parse(text));
 }
@@ -45,11 +45,11 @@ function readScenario(text) {
 const prefixOf = (schedule, length) => ({ ...schedule, events: schedule.events.slice(0, length) });
 const withEvent = (schedule, event) => ({ ...schedule, events: [...schedule.events, event] });
 
-// ---- messages are numbered in the order of sending, so that an event in the middle moves the numbers behind it
+// ---- an event in the middle changes the numbers of later messages, because numbers follow the order of sending
 
 const messageOf = event => /^(deliver|lose) (\d+) (\d+)$/.exec(event);
 
-// The events, with all messages from number `first` on renumbered.
+// The events, after `by` is added to all message numbers from `first` on. `moved` is the number of changed events.
 function renumbered(events, first, by) {
   let moved = 0;
   const texts = events.map(event => {
@@ -61,14 +61,14 @@ function renumbered(events, first, by) {
   return { texts, moved };
 }
 
-// The schedule with an event put in at a place, before which `first` messages were sent, and which sends `count`.
+// The schedule with an event inserted at a place. `first` messages were sent before the event, and it sends `count`.
 function withInserted(schedule, place, event, first, count) {
   const { texts, moved } = renumbered(schedule.events.slice(place), first, count);
   return { schedule: { ...schedule, events: [...schedule.events.slice(0, place), event, ...texts] }, moved };
 }
 
-// The schedule without the event at a place, which sent `count` messages from number `first` on, and without the
-// deliveries of these.
+// The schedule without the event at a place. The event sent `count` messages from number `first` on. The deliveries and
+// losses of these messages are also removed.
 function withRemoved(schedule, place, first, count) {
   const isGone = event => {
     const named = messageOf(event);
@@ -80,9 +80,9 @@ function withRemoved(schedule, place, first, count) {
   return { schedule: { ...schedule, events }, moved, gone: behind.filter(isGone) };
 }
 
-// ---- the schedule in a link, readable since no word of an event needs an escape
+// ---- the schedule in a link, which is readable because no word of an event needs an escape
 
-// So long a link may be: a longer one is not taken by every browser.
+// In characters. Some browsers do not accept longer links.
 const LONGEST_LINK = 60_000;
 
 function asLink(schedule, cursor, step) {
@@ -92,7 +92,7 @@ function asLink(schedule, cursor, step) {
   return link.length > LONGEST_LINK ? null : link;
 }
 
-// What a link holds, which the program has to check yet; null where it is none.
+// The content of a link, or null if it is not a link to a schedule. The program must still check the schedule.
 function readLink(hash) {
   const fields = /^#((?:[a-z]=\d+&)+)at=(\d+)(?:&step=(\d+))?&e=(.*)$/.exec(hash);
   if (!fields) return null;
@@ -112,9 +112,9 @@ function readPart(text) {
   }
 }
 
-// ---- where in a text a mistake is, by the program's words
+// ---- the place of a mistake in a text, from the words of the program
 
-// Where the values of the list at a place of the text stand: [start, end] of each.
+// The places of the items of a list, each as [start, end]. The bracket of the list is at `open`.
 function itemsOf(text, open) {
   const items = [];
   let depth = 0, start = -1;
@@ -139,7 +139,7 @@ function endOfString(text, at) {
   return at;
 }
 
-// The items of the list that is the value of a field.
+// The places of the items of the list in a field.
 function itemsOfField(text, name) {
   const field = new RegExp(`"${name}"\\s*:\\s*\\[`).exec(text);
   return field ? itemsOf(text, field.index + field[0].length - 1) : [];
@@ -155,7 +155,7 @@ function placeOfLine(text, number, column) {
   return [at, Math.min(at + (word ? word[0].length : 1), text.length)];
 }
 
-// What the words of a fault are about: [start, end] in the text, or null where they name no place.
+// The place that the words of a fault name, as [start, end] in the text, or null if they name no place.
 function placeOfMistake(text, words) {
   const line = /^line (\d+)(?:, column (\d+))?/.exec(words);
   if (line) return placeOfLine(text, +line[1], line[2] && +line[2]);

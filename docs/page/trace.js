@@ -1,6 +1,6 @@
 'use strict';
-// What a trace says, for the tables and buttons. The protocol's rules are not here: each entry of a table is a line of
-// the trace, or the greatest ballot of several, as docs/MODEL.md asks it ("The trace").
+// Reads a trace for the tables and buttons. This file contains no rules of the protocol. Each entry of a table comes
+// from a line of the trace, or is the greatest ballot of several lines. See "The trace" in docs/MODEL.md.
 
 const NO_SLOT = { promised: 0, vote: null, tried: 0, promises: null, acceptances: null, proposal: null, learned: null };
 
@@ -8,11 +8,11 @@ class Trace {
   constructor(text) {
     this.servers = 0;
     this.events = [];   // { text, firstMessage, refusal, lines }
-    this.messages = []; // { number, kind, from, to, instance, label }, `to` a server or null for all
-    this.closing = [];  // of each server { front, executed, waiting }
+    this.messages = []; // { number, kind, from, to, instance, label }; `to` is a server, or null for all servers
+    this.closing = [];  // { front, executed, waiting } for each server
     this.unheard = [];  // { number, to }
-    this.lost = new Set(); // of texts `NUMBER SERVER`
-    this.slots = [];    // of each server a map from an instance to what is known there
+    this.lost = new Set(); // texts `NUMBER SERVER`
+    this.slots = [];    // for each server, a map from an instance to the server's knowledge of it
     this.proposals = new Map();
     for (const line of text.split('\n')) this.read(line, line.split(' '));
   }
@@ -24,13 +24,13 @@ class Trace {
     if (isOfEvent) this.events.at(-1)?.lines.push(line);
   }
 
-  // How many messages the event at a place sent.
+  // The number of messages that the event at a place sent.
   countOf(place) {
     const behind = this.events[place + 1];
     return (behind ? behind.firstMessage : this.messages.length) - this.events[place].firstMessage;
   }
 
-  // The messages that a server heard already, and may hear again.
+  // The messages that a server has heard. It may hear them again.
   heardBy(server) {
     const due = new Set(this.unheard.filter(({ to }) => to === server).map(({ number }) => number));
     const isHeard = ({ number, to }) =>
@@ -108,7 +108,7 @@ const SENDERS = {
   },
 };
 
-// What a message says behind its kind, as the picture writes it.
+// The content of a message, without its kind, as the picture shows it.
 function labelOf(words) {
   switch (words[2]) {
     case 'Skip': return `i${words[8]} until i${words[10]}`;
@@ -121,7 +121,7 @@ function labelOf(words) {
   }
 }
 
-// What a report says: each server's history, and the replies.
+// Reads a report: the histories, the replies, the refusals and the counts.
 function readReport(text) {
   const report = { histories: [], replies: [], messages: 0, accepted: 0, refused: [] };
   for (const line of text.split('\n')) {
@@ -134,20 +134,20 @@ function readReport(text) {
   return report;
 }
 
-// Why an event is refused, in words.
+// The reason for each refusal, in words.
 const REFUSALS = {
   BadServer: 'the cluster has no such server',
-  DuplicateCommand: 'a command of this identity was submitted before',
-  InstancesFull: 'it has no instance of its own left',
+  DuplicateCommand: 'a command with this identity was submitted before',
+  InstancesFull: 'the server has no instance of its own left',
   NoMessage: 'no message of this number was sent',
   NotAddressed: 'the message goes to another server',
   LostMessage: 'the message was lost on its way there',
   SelfSuspect: 'no server suspects itself',
-  NothingToRevoke: 'it knows what stands at all instances of that server that the suspicion would cover',
+  NothingToRevoke: 'the suspicion would cover no instance of that server',
   RoundsFull: 'no round is left for another ballot',
-  NothingWaiting: 'none of its commands has lost its instance and waits',
-  NothingToExecute: 'it has not learned its next instance',
-  EventsFull: 'the cluster has taken all the events that it can',
-  MessagesFull: 'the cluster has sent all the messages that it can',
-  NoMemory: 'memory ran out',
+  NothingWaiting: 'no command of the server has lost its instance and waits',
+  NothingToExecute: 'the server has not learned its next instance',
+  EventsFull: 'the cluster cannot accept more events',
+  MessagesFull: 'the cluster cannot send more messages',
+  NoMemory: 'the program ran out of memory',
 };

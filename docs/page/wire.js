@@ -1,5 +1,5 @@
 'use strict';
-// What buttons and keys do.
+// The actions of buttons and keys.
 
 const OWN = {
   out: takeOut,
@@ -16,7 +16,7 @@ function press(button) {
   else add(button.dataset.do);
 }
 
-// Hands a command in, if its words are those of one and the program does not refuse it.
+// Submits a command, if its text is a command and the program does not refuse the event.
 function submit(form) {
   const event = `submit ${form.dataset.server} ${form.querySelector('input').value}`;
   const answer = core.call(['check'], asScenario(withEvent(emptyOf({ servers: 1 }), event)));
@@ -25,7 +25,7 @@ function submit(form) {
     return;
   }
   const refusal = refusalOf(event);
-  if (refusal) say(`The proved code would refuse this: ${refusal}, since ${REFUSALS[refusal]}.`);
+  if (refusal) say(`The proved code would refuse this: ${refusal}, because ${REFUSALS[refusal]}.`);
   else add(event);
 }
 
@@ -43,15 +43,15 @@ function savePicture() {
 
 async function copyLink() {
   if (!asLink(page.schedule, page.cursor, lesson.step)) {
-    say('The schedule is too long for a link: JSON saves it as a file.');
+    say('The schedule is too long for a link. Click JSON to save it as a file.');
     return;
   }
   keepAddress();
   try {
     await navigator.clipboard.writeText(location.href);
-    say('The link is in the clipboard. It holds the whole schedule.');
+    say('The link is in the clipboard. It contains the whole schedule.');
   } catch {
-    say('The link is in the address bar. It holds the whole schedule.');
+    say('The link is in the address bar. It contains the whole schedule.');
   }
 }
 
@@ -61,20 +61,20 @@ function changeTheme() {
   root.className = shown === 'dark' ? 'light' : 'dark';
 }
 
-// Hides what stands beside the picture, or shows it again.
+// Hides the panel next to the picture, or shows it again.
 function showSide() {
   const isHidden = document.body.classList.toggle('alone');
   $('side').setAttribute('aria-pressed', isHidden);
 }
 
-// A field that the servers have in common. The events stay, if the program takes the number.
+// Adds an input for a field that all servers share. If the program accepts a new number, the events stay.
 function wireCommon(name) {
   const input = el('input', { id: name, type: 'number', min: 0 });
   $('common').append(el('label', { title: DATA.members[name].meaning }, `${name} `, input));
   input.onchange = () => {
     if (!open({ ...page.schedule, [name]: Number(input.value) }, page.cursor)) showBar();
     else if (page.schedule.events.length > 0) {
-      say('The events stay. Some may send other messages now, and later messages have other numbers then.');
+      say('The events stay. Some may now send other messages, and later messages may have other numbers.');
     }
   };
 }
@@ -91,7 +91,7 @@ function wireBar() {
   $('servers').onchange = () => {
     const wasEmpty = page.schedule.events.length === 0;
     become(emptyOf({ ...page.schedule, servers: +$('servers').value }), 0);
-    if (!wasEmpty) say('A new schedule. Undo brings the former one back.');
+    if (!wasEmpty) say('This is a new schedule. Undo restores the former one.');
   };
   COMMON.forEach(wireCommon);
   const actions = {
@@ -130,7 +130,7 @@ function resized() {
   markCursor(page.cursor);
 }
 
-// Marks a message in the picture, and takes the mark off all others.
+// Marks a message in the picture, and removes the mark of all others.
 function light(number) {
   for (const part of $('drawing').querySelectorAll('.lit')) part.classList.remove('lit');
   if (number !== null && number !== undefined) document.getElementById(`m${number}`)?.classList.add('lit');
@@ -161,7 +161,7 @@ function wireTabs() {
     if (schedule) become(schedule, schedule.events.length);
   };
   for (const name of Object.keys(DATA.logs)) $('logs').add(new Option(name.replaceAll('_', ' '), name));
-  $('logs').add(new Option('what was seen of the schedule', ''));
+  $('logs').add(new Option('the log of the schedule', ''));
   $('log').value = DATA.logs[$('logs').value = 'same_order'];
   $('logs').onchange = () => {
     $('log').value = DATA.logs[$('logs').value] ?? logOf(page.now.trace);
@@ -183,7 +183,7 @@ const PLAIN = {
   d: () => pressFocused('.message'), l: () => pressFocused('.lose'),
 };
 
-// Delivers or loses the message on whose row the focus is.
+// Delivers or loses the message that has the focus.
 function pressFocused(kind) {
   document.activeElement?.closest?.('[data-m]')?.querySelector(kind)?.click();
 }
