@@ -8,7 +8,7 @@
 //! that the returned value calls for. No call allocates memory, and no call fails.
 #![tactic(auto)]
 
-ghost use Rattle.std.specs.Prelude.{◌≡◌, ◌<◌, ◌≤◌, ◌==◌, Some, None, is_none, length, nat_le, slice_set, take, true};
+ghost use Rattle.std.specs.Prelude.{◌≡◌, ◌<◌, ◌==◌, Some, None, is_none, length, nat_le, slice_set, take, true};
 ghost use Rattle.std.specs.Option.{option_map_or};
 ghost use Rattle.coord_paxos.specs.Fresh.{new_slot};
 ghost use Rattle.coord_paxos.specs.Slot.{acceptance_answer, after_accept, after_acceptance, after_begin, after_learn, after_prepare, after_promise, has_majority, prepare_answer, promise_answer, with_acceptance, with_promise};

@@ -20,7 +20,7 @@ pub(crate) fn accepted_by(
     ensures len { IfOk result (λ x. vec_len x ≡ instance_count) }
     ensures ballots { IfOk result (λ x. AreAccepted (trace_of cluster.now) server x.items) }
 {
-    let _inside: Option<Vote> = None;
+    let _named: Option<Vote> = None; // proof: a message can hold a vote
     let mut ballots = no_ballots(alloc)?;
     for number in 0..cluster.messages() {
         let Some(message) = cluster.message(number) else {
@@ -87,7 +87,7 @@ pub(crate) fn vote_of(cluster: &Cluster, inst: u32, ballot: Option<Ballot>) -> O
 fn proposal(cluster: &Cluster, inst: u32, ballot: Ballot) -> Option<Value>
     ensures { result ≡ proposal (trace_of cluster.now) inst ballot }
 {
-    let _inside: Option<Vote> = None;
+    let _named: Option<Vote> = None; // proof: a message can hold a vote
     for number in 0..cluster.messages() {
         let Some(message) = cluster.message(number) else {
             unreachable!();

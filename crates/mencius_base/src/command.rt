@@ -1,5 +1,4 @@
-ghost use Rattle.std.specs.Prelude.{◌≡◌, MatchResult, MatchOption, None, Some, ◌≤◌, IsTrue, length, string_bytes};
-ghost use Rattle.std.specs.List.{list_all};
+ghost use Rattle.std.specs.Prelude.{◌≡◌, MatchResult, None, Some, string_bytes};
 ghost use Rattle.mencius_base.specs.Command.{bad_entry, bad_op, is_name};
 
 use crate::limits::{MOST_KEY_BYTES, MOST_TEXT_BYTES};

@@ -105,7 +105,7 @@ impl Outbox {
         ensures limit { self.new.limit ≡ self.old.limit }
         ensures room { self.new.room + 1 ≡ self.old.room }
     {
-        let _inside: Option<Vote> = None;
+        let _named: Option<Vote> = None; // proof: a message can hold a vote
         self.messages.push_reserved(message);
     }
 }

@@ -1,5 +1,5 @@
 //! The choices of a worker.
-ghost use Rattle.std.specs.Prelude.{◌≡◌, ◌+◌, ◌<◌, ◌^◌, ◌∷◌, [], MatchOption, MatchResult, OnSome, IfOk, IfSome, map};
+ghost use Rattle.std.specs.Prelude.{◌≡◌, ◌+◌, ◌<◌, ◌^◌, ◌∷◌, [], MatchOption, MatchResult, IfOk, IfSome, map};
 ghost use Rattle.mencius_base.specs.Limits.{most_servers};
 ghost use Rattle.mencius_base.specs.Members.{numbers_below};
 ghost use Rattle.mencius_base.specs.declared.event.Event.TheVariants.{Submit};

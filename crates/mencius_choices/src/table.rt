@@ -1,5 +1,5 @@
 //! The table that gives the choice for three random words.
-ghost use Rattle.std.specs.Prelude.{◌≡◌, ◌<◌, ◌%◌, length, slice_get, slice_index};
+ghost use Rattle.std.specs.Prelude.{◌≡◌, ◌<◌, ◌%◌, slice_get};
 ghost use Rattle.mencius_model.specs.Trace.{sent_messages};
 ghost use Rattle.mencius_cluster.specs.State.{trace_of};
 ghost use Rattle.mencius_choices.specs.Picks.{addressee_or, message_named, pick_by, pick_of};

@@ -1,6 +1,6 @@
 //! The position of each line of a trace in the picture.
 
-ghost use Rattle.std.specs.Prelude.{◌≡◌, ◌++◌, [], ◌+◌, ◌-◌, ◌<◌, ◌≤◌, ◌^◌, map, IfOk, OnOk};
+ghost use Rattle.std.specs.Prelude.{◌≡◌, ◌++◌, [], ◌+◌, ◌-◌, ◌<◌, ◌^◌, map, IfOk, OnOk};
 ghost use Rattle.std.specs.List.{cons_option, flat_map};
 ghost use Rattle.mencius_draw.specs.Facts.{fact_of};
 ghost use Rattle.mencius_draw.specs.Layout.{end_of, event_spot, is_drawn, if_needed, is_told_below, lines_of, next_line, outcome_spot, outline, sent_here, sents_of, shape_of, shapes_of, spot_after, start};

@@ -3,7 +3,7 @@
 
 ghost use Rattle.std.specs.Prelude.{◌≡◌, position};
 ghost use Rattle.std.specs.Str.{bytes_eq};
-ghost use Rattle.mencius_input.specs.FieldsOf.{default_of, field_name, is_field_within, fields, list_field, row, run_fields, whole_fields};
+ghost use Rattle.mencius_input.specs.FieldsOf.{default_of, field_name, is_field_within, list_field, row, run_fields, whole_fields};
 
 use crate::kind::Kind;
 use mencius_base::{GREATEST_BETA, GREATEST_LOSS, MOST_SERVERS, MOST_TURNS, MOST_WORKERS};

@@ -1,6 +1,6 @@
 //! Reads the fields of a scenario's object, one after another.
 
-ghost use Rattle.std.specs.Prelude.{◌≡◌, ◌<◌, IfErr, IfOk, OnOk, Some, length, map, option_map};
+ghost use Rattle.std.specs.Prelude.{◌≡◌, ◌<◌, IfErr, IfOk, OnOk, Some, length, map};
 ghost use Rattle.serde_json.specs.Data.{Data, Members, put};
 ghost use Rattle.serde_json.specs.Read.{max_depth, read};
 ghost use Rattle.mencius_input.specs.FieldValues.{AreAll, AreFieldValues, IsUnread, list_kept, list_said};

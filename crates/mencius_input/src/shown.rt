@@ -1,6 +1,6 @@
 //! Shows a text in the words of an explanation.
 
-ghost use Rattle.std.specs.Prelude.{◌≡◌, ◌<◌, ◌++◌, IfOk, OnOk, List, ℕ, flat_map, length, string_bytes, take};
+ghost use Rattle.std.specs.Prelude.{◌≡◌, ◌<◌, ◌++◌, IfOk, OnOk, flat_map, length, string_bytes, take};
 ghost use Rattle.std.specs.Str.{chars};
 ghost use Rattle.mencius_input.specs.Shown.{is_hidden, most_shown, shown_char, shown_number, shown_text};
 

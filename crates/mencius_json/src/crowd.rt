@@ -1,7 +1,6 @@
 //! Finds the texts that have too many signs for a tree.
 
-ghost use Rattle.std.specs.Prelude.{◌≡◌, ◌==◌, ◌||◌, length};
-ghost use Rattle.std.specs.List.{filter};
+ghost use Rattle.std.specs.Prelude.{◌≡◌};
 ghost use Rattle.mencius_json.specs.Crowds.{braces_in, brackets_in, crowd_in, separators_in};
 
 use crate::count::count_of;

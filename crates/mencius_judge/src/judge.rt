@@ -1,4 +1,4 @@
-ghost use Rattle.std.specs.Prelude.{◌≡◌, ◌≢◌, ◌↔◌, ◌<◌, ◌≤◌, ◌+◌, ℕ, [], ◌∷◌, ◌++◌, Some, None, IsNone, IsTrue, IfOk, OnOk, MatchBool, MatchOption, get_or, length, slice_get};
+ghost use Rattle.std.specs.Prelude.{◌≡◌, ◌≢◌, ◌↔◌, ◌<◌, ◌≤◌, ◌+◌, [], ◌∷◌, Some, None, IsNone, IsTrue, IfOk, OnOk, MatchOption, get_or, length, slice_get};
 ghost use Rattle.std.specs.BTreeMap.{Updates, get};
 ghost use Rattle.std.specs.List.{count_by};
 ghost use Rattle.std.specs.Ordering.{nat_cmp};

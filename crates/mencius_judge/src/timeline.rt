@@ -1,4 +1,4 @@
-ghost use Rattle.std.specs.Prelude.{◌≡◌, ◌≢◌, ◌++◌, ◌∷◌, ℕ, List, [], IfOk, OnOk, MatchOption, Option};
+ghost use Rattle.std.specs.Prelude.{◌≡◌, ◌≢◌, ◌++◌, ◌∷◌, ℕ, List, [], OnOk, MatchOption, Option};
 ghost use Rattle.std.specs.BTreeMap.{get_by_text};
 ghost use Rattle.mencius_judge.specs.Timelines.{HasNone, IsFirstCount, IsFirstPeriod, IsTimeline, AreRising, AllBefore, items_of, periods_of};
 

@@ -1,6 +1,5 @@
 //! The stored knowledge about instances, in slots and in intervals of skipped instances.
 ghost use Rattle.mencius_base.specs.Limits.{greatest_front, instance_count};
-ghost use Rattle.mencius_base.specs.Members.{owner};
 ghost use Rattle.mencius_server.specs.Instances.{IsSorted, instance_slot_in, is_in_skipped, slot_by_skip};
 ghost use Rattle.mencius_server.specs.LearnedIntervals.{AreLearnedIntervals};
 ghost use Rattle.mencius_server.specs.Calls.{IsFirstOpen};

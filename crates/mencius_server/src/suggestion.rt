@@ -1,12 +1,12 @@
 //! Rules 1 and 4. They say where a server suggests a ticket, and which tickets wait to be suggested again.
 ghost use Rattle.mencius_base.specs.Limits.{instance_count};
-ghost use Rattle.mencius_base.specs.Members.{instances, owner};
+ghost use Rattle.mencius_base.specs.Members.{instances};
 ghost use Rattle.mencius_base.specs.Refusal.{IsRefusedFor};
 ghost use Rattle.mencius_base.specs.declared.message.Value.TheVariants.{Noop};
 ghost use Rattle.mencius_server.specs.Machine.{IsFree, IsUndone, SameServerAndLimit, is_free_at, after_submit, after_submit_at, free_at, submit_cause, submit_sent, after_retry, first_waiting, is_suggested_again, retry_cause, retry_sent, suggested_at, own_waiting_at};
 ghost use Rattle.mencius_server.specs.State.{slot};
 ghost use Rattle.std.specs.List.{list_any};
-ghost use Rattle.std.specs.Prelude.{◌≡◌, ℕ, ◌||◌, IfNone, None, false, is_none, min, ◌+◌, ◌<◌, ◌++◌, OnOk, OnErr, IfSome, Some};
+ghost use Rattle.std.specs.Prelude.{◌≡◌, ℕ, ◌||◌, IfNone, None, false, ◌+◌, ◌<◌, ◌++◌, OnOk, OnErr, IfSome, Some};
 
 use crate::Server;
 use crate::instances::Instances;

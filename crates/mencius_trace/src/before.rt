@@ -78,7 +78,7 @@ fn server_of(event: &Event) -> u8
 fn heard_in(cluster: &Cluster, event: &Event) -> Option<Message>
     ensures { result ≡ heard_in (trace_of cluster.now) event.now }
 {
-    let _inside: Option<Vote> = None;
+    let _named: Option<Vote> = None; // proof: a message can hold a vote
     match event {
         Event::Deliver { message, .. } => cluster.message(*message),
         _ => None,

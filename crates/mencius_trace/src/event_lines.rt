@@ -1,6 +1,6 @@
 //! The lines of an event.
 
-ghost use Rattle.std.specs.Prelude.{ℕ, ◌≡◌, ◌≢◌, ◌==◌, ◌&&◌, false, slice_get, ◌<◌, ◌++◌, ◌-◌, [], Some, IfErr, IfSome, OnOk, length, string_bytes};
+ghost use Rattle.std.specs.Prelude.{ℕ, ◌≡◌, ◌≢◌, ◌==◌, ◌&&◌, false, slice_get, ◌<◌, ◌++◌, ◌-◌, Some, IfSome, OnOk, length, string_bytes};
 ghost use Rattle.std.specs.Result.{result_unwrap_or};
 ghost use Rattle.mencius_base.specs.Limits.{instance_count};
 ghost use Rattle.mencius_base.specs.Members.{IsMember};
@@ -305,7 +305,7 @@ fn push_sent_line(text: &mut String, cluster: &Cluster, number: u32) -> Result<(
         ++ of_message (sent_line (trace_of cluster.now)) number
         (slice_get (sent_messages (trace_of cluster.now)) number)) }
 {
-    let _inside: Option<Vote> = None;
+    let _named: Option<Vote> = None; // proof: a message can hold a vote
     match cluster.message(number) {
         Some(message) => push_sent(text, cluster, number, message),
         None => Ok(()),

@@ -1,8 +1,8 @@
 //! The lines of a printed trace. Each line states one fact.
 
-ghost use Rattle.std.specs.Prelude.{◌≡◌, ◌++◌, ◌∷◌, decimal, string_bytes, OnOk};
+ghost use Rattle.std.specs.Prelude.{◌≡◌, ◌++◌, string_bytes, OnOk};
 ghost use Rattle.mencius_cluster.specs.State.{trace_of};
-ghost use Rattle.mencius_trace.specs.Facts.{at_ballot, at_instance, content_text, event_line, executed_line, front_line, kind_text, learned_line, refused_line, sent_line, tally_line, to_all, to_one, value_text, vote_text, way_text, with_value};
+ghost use Rattle.mencius_trace.specs.Facts.{at_ballot, content_text, event_line, executed_line, front_line, kind_text, learned_line, refused_line, sent_line, tally_line, value_text, vote_text, way_text, with_value};
 
 use crate::words::push_ticket;
 use mencius_base::{Ballot, Event, Message, Refusal, Value, Vote};

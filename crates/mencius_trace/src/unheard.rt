@@ -83,7 +83,7 @@ fn push_unheard_lines(
         ++ of_message (unheard_lines cluster.now.members (trace_of cluster.now)) number
         (slice_get (sent_messages (trace_of cluster.now)) number)) }
 {
-    let _inside: Option<Vote> = None;
+    let _named: Option<Vote> = None; // proof: a message can hold a vote
     match cluster.message(number) {
         Some(message) => push_for_each(text, cluster, settled, number, &message),
         None => Ok(()),

@@ -104,7 +104,7 @@ fn draw_message(dice: &mut Dice, cluster: &Cluster) -> u32 {
 
 // Returns the addressee of a message, if the message is for one server alone. Otherwise returns `server`.
 fn addressee_or(cluster: &Cluster, message: u32, server: u8) -> u8 {
-    let _inside: Option<Vote> = None;
+    let _named: Option<Vote> = None; // proof: a message can hold a vote
     match cluster.message(message) {
         Some(Message::Accepted { to, .. } | Message::Promise { to, .. }) => to,
         _ => server,

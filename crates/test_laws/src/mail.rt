@@ -43,7 +43,7 @@ impl Mail {
 }
 
 fn may_come(dice: &mut Dice, cluster: &Cluster, message: u32, slow: u8, server: u8) -> bool {
-    let _inside: Option<Vote> = None;
+    let _named: Option<Vote> = None; // proof: a message can hold a vote
     match cluster.message(message) {
         Some(sent) => {
             let sender = sender_of(&sent);

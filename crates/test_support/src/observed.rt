@@ -86,7 +86,7 @@ impl Observed {
         server: u8,
     ) -> Result<Option<&'static str>, AllocError> {
         // For a value that contains a message, the checker looks for the types inside it among the types named here.
-        let _inside: Option<Vote> = None;
+        let _named: Option<Vote> = None; // proof: a message can hold a vote
         match cluster.message(message) {
             Some(Message::Skip { first, stop, .. }) => {
                 self.see_values(cluster, server, first, stop)

@@ -107,7 +107,7 @@ impl Walk {
 
     /// Delivers a message to each server that it was sent to. Delivers nothing if no message has this number.
     pub fn deliver_everywhere(&mut self, message: u32) -> Result<(), Stop> {
-        let _inside: Option<Vote> = None;
+        let _named: Option<Vote> = None; // proof: a message can hold a vote
         let Some(sent) = self.cluster.message(message) else {
             return Ok(());
         };

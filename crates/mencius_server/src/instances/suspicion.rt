@@ -1,6 +1,6 @@
 //! The instances that a suspicion of a server would revoke, and the first phases that it starts.
 ghost use Rattle.mencius_base.specs.Limits.{greatest_front, instance_count};
-ghost use Rattle.mencius_base.specs.Members.{numbers_below, instances};
+ghost use Rattle.mencius_base.specs.Members.{numbers_below};
 ghost use Rattle.mencius_server.specs.Instances.{instances_after_suspect, is_open_in, prepares_in, prepares_stored, reach_stored, with_first_phases, with_open_stored};
 ghost use Rattle.mencius_server.specs.OwnedIntervals.{IsOwnedInterval};
 ghost use Rattle.mencius_server.specs.Tallies.{IsOpenInterval, IsSurvey};
