@@ -16,14 +16,14 @@ use Rattle.mencius_base.specs.Command.{bad_op, is_key_length, is_name, is_name_b
 use Rattle.mencius_base.specs.Limits.{most_text_bytes}
 use Rattle.mencius_base.specs.declared.command.CommandId.{CommandId}
 use Rattle.mencius_base.specs.declared.command.Op.{Op}
-use Rattle.mencius_base.specs.declared.command.Op.TheVariants.{Set, Get, Del, Cas}
 use Rattle.mencius_format.specs.Grammar.{id_of, is_id_within, newest_version, two_numbers}
 use Rattle.mencius_format.specs.Operations.{op_text}
 use Rattle.mencius_format.specs.Texts.{command_text, id_text}
 use Rattle.mencius_format.specs.Words.{words}
 use Rattle.mencius_format.proofs.OperationWords.{both_hold, most_op_bytes, op_stands, op_word}
+use Rattle.mencius_format.proofs.PlainWords.{ArePlain, is_plain}
 use Rattle.mencius_format.proofs.TextWords.{commands_read_back}
-use Rattle.mencius_format.proofs.WrittenWords.{Lacks, cut_at, entry_good, lacks_append, lacks_dot, lacks_space, name_again, named_lacks, number_again, uncut}
+use Rattle.mencius_format.proofs.WrittenWords.{Lacks, cut_at, lacks_append, lacks_dot, lacks_space, name_again, named_lacks, number_again, uncut}
 use Rattle.mencius_judge.specs.declared.observation.Observation.{Observation}
 use Rattle.mencius_judge.specs.declared.observation.Observation.TheVariants.{Submit, Execute, Reply, Lookup, Tell}
 use Rattle.mencius_judge.specs.Lines.{answer_of, is_answer_within, is_passed_over, line_said, most_line_bytes, observation_of, is_observation_within}
@@ -205,23 +205,17 @@ name_shown xs h = name_bytes_shown xs h
 name_short : (most : ℕ) (xs : List ℕ) → is_name xs ≡ true → length xs ≤ most → IsShort most xs
 name_short most xs h l = record { shown = name_shown xs h; short = l }
 
--- each byte of an operation's text is ASCII and at least 32, because the text is a word and names
-op_shown : (o : Op) → bad_op o ≡ None → AreShown (op_text o)
-op_shown (Set key text) h =
-    let good = entry_good key [] text h in
-    (around (length key) (length text) 32 key text refl (name_short _ key good.key_named (omega arith))
-    (name_short _ text good.text_named (omega arith))).shown
-op_shown (Get key) h = name_shown key (entry_good key [] [] h).key_named
-op_shown (Del key) h = name_shown key (entry_good key [] [] h).key_named
-op_shown (Cas key held text) h =
-    let good = entry_good key held text h in
-    (around (length key) (length held + (1 + length text)) 32 key (held ++ 32 ∷ text) refl
-    (name_short _ key good.key_named (omega arith))
-    (around (length held) (length text) 32 held text refl (name_short _ held good.held_named (omega arith))
-    (name_short _ text good.text_named (omega arith)))).shown
+plain_byte_shown : (x : ℕ) → is_plain x ≡ true → is_shown x ≡ true
+plain_byte_shown x h = grind (arith, nat_tests)
+
+plain_shown : (xs : List ℕ) → ArePlain xs → AreShown xs
+plain_shown [] h = refl
+plain_shown (x ∷ xs) h =
+    let parts = and_parts (is_plain x) (list_all is_plain xs) h in
+    and_from (is_shown x) (list_all is_shown xs) (plain_byte_shown x parts.0) (plain_shown xs parts.1)
 
 op_short : (o : Op) → bad_op o ≡ None → IsShort most_op_bytes (op_text o)
-op_short o h = record { shown = op_shown o h; short = (op_word o h).short }
+op_short o h = let word = op_word o h in record { shown = plain_shown (op_text o) word.plain; short = word.short }
 
 answer_short : (text : Option (List ℕ)) → IsAnswer text → IsShort 257 (held_text text)
 answer_short None h = record { shown = refl; short = omega arith }
