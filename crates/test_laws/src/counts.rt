@@ -1,9 +1,9 @@
 //! Counts the events of all schedules together.
 
-use crate::operations::has_bound;
 use mencius_base::Entry;
 use mencius_cluster::{Answered, Cluster};
 use std::alloc::{AllocError, Global};
+use test_support::plain_map::has_bound;
 
 /// The number of accepted events, in all and of each kind except executions. It also counts the deliveries that
 /// repeated an earlier delivery, the suspicions that looked ahead, and the commands in the longest histories.

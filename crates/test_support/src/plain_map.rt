@@ -1,6 +1,6 @@
-//! A second map, next to the map under test.
+//! Operations on a map: a second map, next to the map under test, and operations for random draws.
 
-use mencius_base::Op;
+use mencius_base::{Key, Op, Text};
 use std::alloc::{AllocError, Global};
 use std::collections::BTreeMap;
 
@@ -21,6 +21,26 @@ pub fn change(
             }
             Ok(former)
         }
+    }
+}
+
+/// Returns whether a compare-and-set bound its key, if `found` is the text that it found there. `None` for any other
+/// operation.
+pub fn has_bound(op: &Op, found: Option<&str>) -> Option<bool> {
+    match op {
+        Op::Cas { held, .. } => Some(found == Some(held.as_str())),
+        Op::Set { .. } | Op::Get { .. } | Op::Del { .. } => None,
+    }
+}
+
+/// Makes an operation on a key. The number says which: of the numbers 0 to 9, four set `text`, and three set it if the
+/// key holds `held`.
+pub fn operation(number: u32, key: Key, held: Text, text: Text) -> Op {
+    match number {
+        0..=3 => Op::Set { key, text },
+        4 | 5 => Op::Get { key },
+        6 => Op::Del { key },
+        _ => Op::Cas { key, held, text },
     }
 }
 
