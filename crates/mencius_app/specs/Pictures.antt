@@ -5,7 +5,7 @@ use Rattle.mencius_io.specs.declared.fault.IoFault.{IoFault}
 use Rattle.mencius_io.specs.declared.fault.IoFault.TheVariants.{BadLimit, NoMemory}
 use Rattle.mencius_draw.specs.declared.options.Options.{Options}
 use Rattle.mencius_draw.specs.Layout.{lines_of}
-use Rattle.mencius_draw.specs.Picture.{levels_of, picture_of}
+use Rattle.mencius_draw.specs.Picture.{ShowsTrace, levels_of}
 use Rattle.mencius_draw.specs.Places.{most_levels}
 use Rattle.mencius_input.specs.declared.kind.Kind.TheVariants.{Replay}
 use Rattle.mencius_app.specs.Failures.{ExplainsAs}
@@ -18,11 +18,11 @@ use Rattle.mencius_app.specs.Trace.{IsTraceOf}
 abbrev pub levels_in : Options → List ℕ → ℕ
 levels_in options trace = levels_of options (lines_of trace)
 
--- the text is the picture of the trace of a scenario, and has at most `most_levels` levels. If the reader's bytes are
+-- the text is a picture of the trace of a scenario, and has at most `most_levels` levels. If the reader's bytes are
 -- known, they are this scenario
 abbrev pub IsPictureOf : Options → Option (List ℕ) → List ℕ → Type 0
 IsPictureOf options known text =
-    (trace : List ℕ) × IsTraceOf known trace × (levels_in options trace ≤ most_levels) × (text ≡ picture_of options trace)
+    (trace : List ℕ) × IsTraceOf known trace × (levels_in options trace ≤ most_levels) × ShowsTrace options trace text
 
 -- the picture of the trace of a scenario has this number of levels, which is above `most_levels`. If the reader's bytes
 -- are known, they are this scenario

@@ -3,4 +3,3 @@ pub mod ShapeLists
 pub mod Needed
 pub mod Escapes
 pub mod Rising
-pub mod Paths

@@ -1,6 +1,5 @@
--- Loops over the lines of a trace make its shapes, its messages, its last spot and the reach of its labels.
+-- Loops over the lines of a trace make its shapes, its messages and its last spot.
 use Rattle.std.proofs.Common.{◌≡◌, ◌<◌, ◌≤◌, ◌==◌, ℕ, ◌+◌, ◌-◌, ◌^◌, Bool, true, false, List, [], ◌∷◌, ◌++◌, Option, Some, None, ap, sym, refl, subst, ◌∙◌, append-nil, append_assoc, arith, length, drop, get_or, filter_map, map, if◌then◌else◌}
-use Rattle.std.specs.Prelude.{max}
 use Rattle.std.proofs.lemmas.List.{drop_all}
 use Rattle.std.proofs.lemmas.List.Splits.{length-slice_split}
 use Rattle.std.proofs.lemmas.List.Sums.{count_by-le-length}
@@ -14,7 +13,6 @@ use Rattle.mencius_draw.specs.declared.options.Options.{Options}
 use Rattle.mencius_draw.specs.Words.{number, word}
 use Rattle.mencius_draw.specs.Facts.{fact_of, note_of}
 use Rattle.mencius_draw.specs.Layout.{Outline, end_of, event_spot, is_drawn, lines_of, if_needed, next_line, outcome_spot, outline, sent_here, shape_of, shapes_of, spot_after, start}
-use Rattle.mencius_draw.specs.Marks.{greatest_reach, reach_of}
 use Rattle.mencius_draw.proofs.Passes.{rest_begins_at}
 
 -- ---- shapes
@@ -188,22 +186,3 @@ sents_further xs i d old new whole h had got =
     let rest = filter_map sent_here (map outline (drop (i + 1) xs)) in
     ap (λ ys. ys ++ rest) got ∙ one_more old (sent_here (outline (get_or xs i d))) rest
     ∙ ap (λ ys. old ++ filter_map sent_here (map outline ys)) (sym (rest_begins_at xs i d h)) ∙ had
-
--- ---- how far labels reach
-
--- the greater of the reach so far and the reach of the remaining labels is the reach of all labels. The reach so far is
--- less than 10,000
-pub record IsReach (so_far rest whole : ℕ) : Type 0 where
-  pub is : max so_far rest ≡ whole
-  pub bound : so_far < 10000
-
-pub reach_further : (servers : ℕ) (xs : List Shape) (i : ℕ) (d : Shape) (so_far reach next whole : ℕ) → i < length xs
-    → IsReach so_far (greatest_reach servers (map outline (drop i xs))) whole
-    → reach ≡ reach_of servers (outline (get_or xs i d)) → reach < 10000 → next ≡ max so_far reach
-    → IsReach next (greatest_reach servers (map outline (drop (i + 1) xs))) whole
-reach_further servers xs i d so_far reach next whole h had got small more =
-    let rest = greatest_reach servers (map outline (drop (i + 1) xs)) in
-    let begins : greatest_reach servers (map outline (drop i xs)) ≡ max reach rest =
-    ap (λ ys. greatest_reach servers (map outline ys)) (rest_begins_at xs i d h) ∙ ap (λ n. max n rest) (sym got) in
-    let all : max so_far (max reach rest) ≡ whole = ap (λ n. max so_far n) (sym begins) ∙ had.is in
-    record { is = omega (arith, more, all); bound = omega (arith, more, small, had.bound) }

@@ -11,15 +11,6 @@ use Rattle.mencius_draw.specs.declared.facts.Note.TheVariants.{Refused, Ignored,
 use Rattle.mencius_draw.specs.declared.facts.Fact.{Fact}
 use Rattle.mencius_draw.specs.declared.facts.Fact.TheVariants.{Event, Sent, Outcome, Closing, Unheard, Other}
 
-abbrev pub kind_name : Kind → List ℕ
-kind_name Suggest = codes "Suggest"
-kind_name Skip = codes "Skip"
-kind_name Accepted = codes "Accepted"
-kind_name Prepare = codes "Prepare"
-kind_name Promise = codes "Promise"
-kind_name Propose = codes "Propose"
-kind_name Learn = codes "Learn"
-
 unfoldable pub kind_of : List ℕ → Option Kind
 kind_of name =
     if bytes_eq name (codes "Suggest") then Some Suggest

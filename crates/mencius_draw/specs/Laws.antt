@@ -1,5 +1,5 @@
 -- Laws that hold for all pictures.
-use Rattle.std.specs.Prelude.{◌≢◌, ◌<◌, ℕ, List, Option, Some, None, if◌then◌else◌}
+use Rattle.std.specs.Prelude.{◌<◌, ℕ, List, Option, Some, None, if◌then◌else◌}
 use Rattle.std.specs.List.{All, filter_map}
 use Rattle.std.specs.List.Sorted.{IsStrictlyIncreasing}
 use Rattle.mencius_draw.specs.declared.facts.Fact.{Fact}
@@ -7,15 +7,8 @@ use Rattle.mencius_draw.specs.declared.facts.Fact.TheVariants.{Event, Sent, Outc
 use Rattle.mencius_draw.specs.declared.options.Options.{Options}
 use Rattle.mencius_draw.specs.Layout.{Outline, lines_of, shapes_of, start}
 use Rattle.mencius_draw.specs.Picture.{levels_of}
+use Rattle.mencius_draw.specs.Svg.{IsHarmless}
 use Rattle.mencius_draw.specs.Words.{plain_text}
-
--- the byte is not `<`, `>`, `&`, `'` or `"`
-pub record IsHarmless (b : ℕ) : Type 0 where
-  pub less : b ≢ 60
-  pub greater : b ≢ 62
-  pub ampersand : b ≢ 38
-  pub apostrophe : b ≢ 39
-  pub quote : b ≢ 34
 
 -- the plain text of any bytes contains only harmless bytes
 abbrev pub ReservesNothing : Type 0

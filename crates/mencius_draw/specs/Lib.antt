@@ -2,10 +2,6 @@ pub mod Words
 pub mod Facts
 pub mod Layout
 pub mod Places
-pub mod Labels
-pub mod Ways
-pub mod Marks
-pub mod Frame
-pub mod Feet
+pub mod Svg
 pub mod Picture
 pub mod Laws

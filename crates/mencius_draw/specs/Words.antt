@@ -1,5 +1,5 @@
 -- The words of a line of a trace. One space separates each word from the next.
-use Rattle.std.specs.Prelude.{ℕ, zero, suc, ◌+◌, ◌-◌, ◌*◌, ◌^◌, ◌==◌, ◌&&◌, ◌||◌, List, [], ◌∷◌, ◌++◌, Bool, Option, Some, None, decimal, nat_le, min, map, take, drop, if◌then◌else◌}
+use Rattle.std.specs.Prelude.{ℕ, zero, suc, ◌+◌, ◌-◌, ◌*◌, ◌^◌, ◌==◌, ◌&&◌, ◌||◌, List, [], ◌∷◌, Bool, Option, Some, None, nat_le, min, map, not, take, drop, if◌then◌else◌}
 use Rattle.std.specs.List.{position}
 
 abbrev pub cut_behind : List ℕ → Option ℕ → List ℕ
@@ -41,11 +41,10 @@ number bytes = number_from 0 bytes
 abbrev pub is_between : ℕ → ℕ → ℕ → Bool
 is_between first last b = nat_le first b && nat_le b last
 
--- whether a byte is a letter, a digit or a mark that a trace may contain
+-- whether a byte is a line end, or a printable byte other than `<`, `>`, `&`, `'` and `"`
 abbrev pub is_plain : ℕ → Bool
 is_plain b =
-    is_between 97 122 b || is_between 65 90 b || is_between 48 57 b
-    || b == 32 || b == 45 || b == 46 || b == 61 || b == 95
+    is_between 32 126 b && not (b == 34 || b == 38 || b == 39 || b == 60 || b == 62) || b == 10
 
 -- a plain byte as it is, and a question mark for any other byte
 unfoldable pub plain_byte : ℕ → ℕ
@@ -54,14 +53,9 @@ plain_byte b = if is_plain b then b else 63
 abbrev pub plain_text : List ℕ → List ℕ
 plain_text bytes = map plain_byte bytes
 
--- the word at a place of a line, as a picture shows it
-abbrev pub plain_word : ℕ → List ℕ → List ℕ
-plain_word place line = plain_text (word place line)
+-- the byte inside a tag, where values are between apostrophes. A `/` also becomes a question mark
+unfoldable pub tag_byte : ℕ → ℕ
+tag_byte b = if b == 39 then b else (if b == 47 then 63 else plain_byte b)
 
--- a text that is always the same
-unfoldable pub fixed_text : List ℕ → List ℕ
-fixed_text text = text
-
--- a number in decimal digits, between two texts that are always the same
-unfoldable pub number_between : List ℕ → ℕ → List ℕ → List ℕ
-number_between before number after = fixed_text before ++ decimal number ++ fixed_text after
+abbrev pub tag_text : List ℕ → List ℕ
+tag_text bytes = map tag_byte bytes

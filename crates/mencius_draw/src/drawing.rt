@@ -1,16 +1,13 @@
 //! The whole picture.
 
-ghost use Rattle.std.specs.Prelude.{◌≡◌, ◌++◌, ◌<◌, ◌≤◌, map, IfOk, OnOk, string_bytes};
+ghost use Rattle.std.specs.Prelude.{◌≡◌, ◌<◌, ◌≤◌, [], map, IfOk, OnOk, string_bytes};
 ghost use Rattle.std.specs.List.{flat_map};
-ghost use Rattle.mencius_draw.specs.Feet.{foot_text};
-ghost use Rattle.mencius_draw.specs.Frame.{rule_text};
-ghost use Rattle.mencius_draw.specs.Layout.{lines_of, outline, sents_of};
-ghost use Rattle.mencius_draw.specs.Marks.{greatest_reach, shape_text};
-ghost use Rattle.mencius_draw.specs.Picture.{IsPicture, picture_text, servers_of};
-ghost use Rattle.mencius_draw.specs.Ways.{way_text};
+ghost use Rattle.mencius_draw.specs.Layout.{lines_of, outline};
+ghost use Rattle.mencius_draw.specs.Picture.{IsPicture, arrow_by, elements_of, groups_by, servers_of};
+ghost use Rattle.mencius_draw.specs.Svg.{Adds, IsSvg, IsText, Keeps};
 
 use crate::feet::push_foot;
-use crate::frame::{push_head, push_key, push_lanes, push_rule};
+use crate::frame::{begun_with_head, push_key, push_lanes, push_rule};
 use crate::layout::{SentMessage, Shape, end_of, first_line, sents_of, shapes_of};
 use crate::marks::{push_shape, reach_of};
 use crate::options::{MOST_LEVELS, Options, TooLarge};
@@ -21,8 +18,7 @@ use std::alloc::{AllocError, Global};
 
 // Returns how far to the right the labels of the shapes reach, in the picture's units, or 0 if no label is drawn.
 fn greatest_reach(alloc: Global, servers: u32, shapes: &[Shape]) -> Result<usize, AllocError>
-    ensures value { IfOk result (λ reach. reach ≡ greatest_reach servers (map outline shapes.now)) }
-    ensures bound { IfOk result (λ reach. reach < 10000) }
+    ensures { IfOk result (λ reach. reach < 10000) }
 {
     let mut reach = 0usize;
     for shape in shapes {
@@ -31,27 +27,32 @@ fn greatest_reach(alloc: Global, servers: u32, shapes: &[Shape]) -> Result<usize
     Ok(reach)
 }
 
-fn push_rules(text: &mut String, width: usize, shapes: &[Shape]) -> Result<(), AllocError>
-    ensures { OnOk result (string_bytes text.new ≡ string_bytes text.old
-        ++ flat_map (rule_text width) (map outline shapes.now)) }
+fn push_rules(
+    alloc: Global,
+    text: &mut String,
+    width: usize,
+    shapes: &[Shape],
+) -> Result<(), AllocError>
+    ensures { OnOk result (Keeps (string_bytes text.old) (string_bytes text.new)) }
 {
     for shape in shapes {
-        push_rule(text, width, shape)?;
+        push_rule(alloc, text, width, shape)?;
     }
     Ok(())
 }
 
 fn push_ways(
+    alloc: Global,
     text: &mut String,
     servers: u32,
     sents: &[SentMessage],
     shapes: &[Shape],
 ) -> Result<(), AllocError>
-    ensures { OnOk result (string_bytes text.new ≡ string_bytes text.old
-        ++ flat_map (way_text servers sents.now) (map outline shapes.now)) }
+    ensures { OnOk result (Adds [] (flat_map (arrow_by servers sents.now) (map outline shapes.now))
+        (string_bytes text.old) (string_bytes text.new)) }
 {
     for shape in shapes {
-        push_way(text, servers, sents, shape)?;
+        push_way(alloc, text, servers, sents, shape)?;
     }
     Ok(())
 }
@@ -63,8 +64,8 @@ fn push_shapes(
     sents: &[SentMessage],
     shapes: &[Shape],
 ) -> Result<(), AllocError>
-    ensures { OnOk result (string_bytes text.new ≡ string_bytes text.old
-        ++ flat_map (shape_text servers sents.now) (map outline shapes.now)) }
+    ensures { OnOk result (Adds [] (flat_map (groups_by servers) (map outline shapes.now))
+        (string_bytes text.old) (string_bytes text.new)) }
 {
     for shape in shapes {
         push_shape(alloc, text, servers, sents, shape)?;
@@ -79,8 +80,7 @@ fn push_feet(
     levels: usize,
     shapes: &[Shape],
 ) -> Result<(), AllocError>
-    ensures { OnOk result (string_bytes text.new ≡ string_bytes text.old
-        ++ flat_map (foot_text servers levels (map outline shapes.now)) (map outline shapes.now)) }
+    ensures { OnOk result (Keeps (string_bytes text.old) (string_bytes text.new)) }
 {
     for shape in shapes {
         push_foot(alloc, text, servers, levels, shapes, shape)?;
@@ -95,6 +95,29 @@ fn servers_of(trace: &str) -> u32
     number(word(first_line(trace), 1)).min(7)
 }
 
+// Returns the text of a picture without its end tag.
+fn inner_text(
+    alloc: Global,
+    options: &Options,
+    servers: u32,
+    levels: usize,
+    shapes: &[Shape],
+) -> Result<String, AllocError>
+    requires { servers ≤ 7 }
+    ensures { IfOk result (λ text. IsText (string_bytes text) [] (elements_of servers (map outline shapes.now))) }
+{
+    let sents = sents_of(alloc, shapes)?;
+    let width = width_of(servers, greatest_reach(alloc, servers, shapes)?);
+    let mut text = begun_with_head(alloc, options.scheme, servers, width, levels)?;
+    push_rules(alloc, &mut text, width, shapes)?;
+    push_lanes(alloc, &mut text, servers, levels)?;
+    push_ways(alloc, &mut text, servers, sents.as_slice(), shapes)?;
+    push_shapes(alloc, &mut text, servers, sents.as_slice(), shapes)?;
+    push_feet(alloc, &mut text, servers, levels, shapes)?;
+    push_key(&mut text, levels)?;
+    Ok(text)
+}
+
 fn picture_text(
     alloc: Global,
     options: &Options,
@@ -103,19 +126,10 @@ fn picture_text(
     shapes: &[Shape],
 ) -> Result<String, AllocError>
     requires { servers ≤ 7 }
-    ensures { IfOk result (λ text. string_bytes text ≡ picture_text options.now.scheme servers levels
-        (sents_of (map outline shapes.now)) (map outline shapes.now)) }
+    ensures { IfOk result (λ text. IsSvg (string_bytes text) (elements_of servers (map outline shapes.now))) }
 {
-    let sents = sents_of(alloc, shapes)?;
-    let width = width_of(servers, greatest_reach(alloc, servers, shapes)?);
-    let mut text = String::new(alloc);
-    push_head(&mut text, options.scheme, servers, width, levels)?;
-    push_rules(&mut text, width, shapes)?;
-    push_lanes(&mut text, servers, levels)?;
-    push_ways(&mut text, servers, sents.as_slice(), shapes)?;
-    push_shapes(alloc, &mut text, servers, sents.as_slice(), shapes)?;
-    push_feet(alloc, &mut text, servers, levels, shapes)?;
-    push_key(&mut text, levels)?;
+    let mut text = inner_text(alloc, options, servers, levels, shapes)?;
+    text.push_str("</svg>\n")?;
     Ok(text)
 }
 
@@ -130,7 +144,6 @@ fn picture_text(
 /// not allocate. A picture allocates memory for its text and for each line of the events that it draws. Apart from
 /// these lines, it allocates memory for each message, each executed instance and each line about the end. It takes time
 /// for each line of the trace.
-#[tactic(auto, unfolding(crate::specs::Picture::picture_of))]
 pub fn picture(
     alloc: Global,
     trace: &str,

@@ -1,7 +1,7 @@
 //! The facts in the lines of a trace that a picture shows.
 
 ghost use Rattle.std.specs.Prelude.{◌≡◌};
-ghost use Rattle.mencius_draw.specs.Facts.{act_of, event_of, fact_of, kind_name, kind_of, note_of, outcome_of, sent_of};
+ghost use Rattle.mencius_draw.specs.Facts.{act_of, event_of, fact_of, kind_of, note_of, outcome_of, sent_of};
 
 use crate::words::{is_word, number, word};
 
@@ -19,9 +19,7 @@ pub(crate) enum Kind {
 
 impl Kind {
     /// Returns the name of the kind, as traces write it.
-    pub(crate) fn name(self) -> &'static str
-        ensures { result.now ≡ kind_name self }
-    {
+    pub(crate) fn name(self) -> &'static str {
         match self {
             Kind::Suggest => "Suggest",
             Kind::Skip => "Skip",

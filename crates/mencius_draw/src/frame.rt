@@ -1,167 +1,239 @@
 //! The parts around the events. These are the head, the lanes, a rule above each event, and the key.
 
-ghost use Rattle.std.specs.Prelude.{◌≡◌, ◌++◌, ◌<◌, ◌≤◌, OnOk, string_bytes};
-ghost use Rattle.mencius_draw.specs.Layout.{outline};
-ghost use Rattle.mencius_draw.specs.Frame.{colours, head, key_text, lane_text, lanes, rule_at, rule_text, scheme_text, size_text, svg_text};
+ghost use Rattle.std.specs.Prelude.{◌≡◌, ◌++◌, ◌<◌, ◌≤◌, [], IfOk, OnOk, codes, string_bytes};
+ghost use Rattle.mencius_draw.specs.Svg.{IsText, Keeps};
 
-use crate::colours::{COLOURS, DARK_COLOURS, DEFINITIONS, KEY, RULES};
+use crate::colours::{COLOURS, DARK_COLOURS, RULES};
 use crate::facts::Fact;
 use crate::layout::Shape;
 use crate::options::Scheme;
-use crate::places::{lane_of, push_y_below, y_of};
-use crate::words::{push_between, push_fixed, push_number};
-use std::alloc::AllocError;
+use crate::places::{lane_of, y_of};
+use crate::svg::{
+    Place, Tag, begun, push_card, push_definitions, push_element, push_end, push_entries,
+    push_label, push_leaf, push_words,
+};
+use std::alloc::{AllocError, Global};
 
-fn scheme_of(scheme: Scheme) -> &'static str
-    ensures { result.now ≡ scheme_text scheme }
-{
+fn scheme_of(scheme: Scheme) -> &'static str {
     match scheme {
-        Scheme::Both => "svg{color-scheme:light dark}\n",
-        Scheme::Light => "svg{color-scheme:light}\n",
-        Scheme::Dark => "svg{color-scheme:dark}\n",
+        Scheme::Both => "\nsvg{color-scheme:light dark}\n",
+        Scheme::Light => "\nsvg{color-scheme:light}\n",
+        Scheme::Dark => "\nsvg{color-scheme:dark}\n",
     }
 }
 
-fn colours_of(scheme: Scheme) -> &'static str
-    ensures { result.now ≡ colours scheme }
-{
+fn colours_of(scheme: Scheme) -> &'static str {
     match scheme {
         Scheme::Both | Scheme::Light => COLOURS,
         Scheme::Dark => DARK_COLOURS,
     }
 }
 
-fn push_scheme(text: &mut String, scheme: Scheme) -> Result<(), AllocError>
-    ensures { OnOk result (string_bytes text.new ≡ string_bytes text.old ++ scheme_text scheme) }
-{
-    text.push_str(scheme_of(scheme))
+// Returns the rules of style, with the colours of a scheme.
+fn style_of(alloc: Global, scheme: Scheme) -> Result<String, AllocError> {
+    let preferred = scheme_of(scheme);
+    let colours = colours_of(scheme);
+    format!(in alloc; "{preferred}{RULES}{colours}")
 }
 
-fn push_colours(text: &mut String, scheme: Scheme) -> Result<(), AllocError>
-    ensures { OnOk result (string_bytes text.new ≡ string_bytes text.old ++ colours scheme) }
-{
-    text.push_str(colours_of(scheme))
+// Returns the height of the picture. It leaves 250 units below the levels for the cards and the key.
+fn height_of(levels: usize) -> usize {
+    y_of(levels) + 250
 }
 
-// Adds the width and the height of the picture. The height leaves 250 units below the levels for the cards and the key.
-fn push_size(text: &mut String, width: usize, levels: usize) -> Result<(), AllocError>
-    ensures { OnOk result (string_bytes text.new ≡ string_bytes text.old ++ size_text width levels) }
+fn begun_of_size(alloc: Global, width: usize, levels: usize) -> Result<String, AllocError>
+    ensures { IfOk result (λ text. IsText (string_bytes text) [] []) }
 {
-    push_between(text, "width='", width, "' height='")?;
-    push_y_below(text, levels, 250)
+    let height = height_of(levels);
+    let rest = format!(in alloc;
+        " width='{width}' height='{height}' viewBox='0 0 {width} {height}' role='img'"
+    )?;
+    begun(alloc, rest.as_str())
 }
 
-fn push_svg(text: &mut String, servers: u32, width: usize, levels: usize) -> Result<(), AllocError>
-    ensures { OnOk result (string_bytes text.new
-        ≡ string_bytes text.old ++ svg_text servers width levels) }
+fn push_paper(
+    alloc: Global,
+    text: &mut String,
+    width: usize,
+    levels: usize,
+) -> Result<(), AllocError>
+    ensures { OnOk result (Keeps (string_bytes text.old) (string_bytes text.new)) }
 {
-    push_fixed(text, "<svg xmlns='http://www.w3.org/2000/svg' ")?;
-    push_size(text, width, levels)?;
-    push_between(text, "' viewBox='0 0 ", width, " ")?;
-    push_y_below(text, levels, 250)?;
-    push_between(
-        text,
-        "' role='img'>\n<title>Space-time diagram of a schedule; servers: ",
-        servers as usize,
-        "</title>\n",
-    )
+    let height = height_of(levels);
+    let rest = format!(in alloc; "rect class='paper' width='{width}' height='{height}'")?;
+    push_leaf(text, rest.as_str())?;
+    push_words(text, "\n")?;
+    Ok(())
 }
 
-/// Adds the head, which comes before the first rule. It contains the title, the styles, the definitions and the
-/// background.
-pub(crate) fn push_head(
+fn push_title(alloc: Global, text: &mut String, servers: u32) -> Result<(), AllocError>
+    ensures { OnOk result (Keeps (string_bytes text.old) (string_bytes text.new)) }
+{
+    let title = format!(in alloc; "Space-time diagram of a schedule; servers: {servers}")?;
+    push_element(text, Tag::Title, "", title.as_str())
+}
+
+fn push_style(alloc: Global, text: &mut String, scheme: Scheme) -> Result<(), AllocError>
+    ensures { OnOk result (Keeps (string_bytes text.old) (string_bytes text.new)) }
+{
+    let style = style_of(alloc, scheme)?;
+    push_element(text, Tag::Style, "", style.as_str())
+}
+
+// Adds the parts of the head, after the start tag of the picture.
+fn push_head(
+    alloc: Global,
     text: &mut String,
     scheme: Scheme,
     servers: u32,
     width: usize,
     levels: usize,
 ) -> Result<(), AllocError>
-    ensures { OnOk result (string_bytes text.new
-        ≡ string_bytes text.old ++ head scheme servers width levels) }
+    ensures { OnOk result (Keeps (string_bytes text.old) (string_bytes text.new)) }
 {
-    push_svg(text, servers, width, levels)?;
-    push_fixed(text, "<style>\n")?;
-    push_scheme(text, scheme)?;
-    text.push_str(RULES)?;
-    push_colours(text, scheme)?;
-    push_fixed(text, "</style>\n")?;
-    text.push_str(DEFINITIONS)?;
-    push_fixed(text, "<rect class='paper' ")?;
-    push_size(text, width, levels)?;
-    push_fixed(text, "'/>\n")
+    push_words(text, "\n")?;
+    push_title(alloc, text, servers)?;
+    push_words(text, "\n")?;
+    push_style(alloc, text, scheme)?;
+    push_words(text, "\n")?;
+    push_definitions(text)?;
+    push_paper(alloc, text, width, levels)?;
+    Ok(())
 }
 
-fn push_rule_at(text: &mut String, width: usize, level: usize) -> Result<(), AllocError>
-    ensures { OnOk result (string_bytes text.new ≡ string_bytes text.old ++ rule_at width level) }
+/// Returns the head, which comes before the first rule. It contains the title, the styles, the definitions and the
+/// background.
+pub(crate) fn begun_with_head(
+    alloc: Global,
+    scheme: Scheme,
+    servers: u32,
+    width: usize,
+    levels: usize,
+) -> Result<String, AllocError>
+    ensures { IfOk result (λ text. IsText (string_bytes text) [] []) }
+{
+    let mut text = begun_of_size(alloc, width, levels)?;
+    push_head(alloc, &mut text, scheme, servers, width, levels)?;
+    Ok(text)
+}
+
+fn push_rule_at(
+    alloc: Global,
+    text: &mut String,
+    width: usize,
+    level: usize,
+) -> Result<(), AllocError>
+    ensures { OnOk result (Keeps (string_bytes text.old) (string_bytes text.new)) }
 {
     let y = y_of(level) - 12;
-    push_between(text, "<path class='rule' d='M0 ", y, "H")?;
-    push_number(text, width)?;
-    push_fixed(text, "'/>\n")
+    let rest = format!(in alloc; "path class='rule' d='M0 {y}H{width}'")?;
+    push_leaf(text, rest.as_str())?;
+    push_words(text, "\n")?;
+    Ok(())
 }
 
 /// Adds a rule above an event that is drawn. Adds no text for any other line.
-pub(crate) fn push_rule(text: &mut String, width: usize, shape: &Shape) -> Result<(), AllocError>
-    ensures { OnOk result (string_bytes text.new
-        ≡ string_bytes text.old ++ rule_text width (outline shape.now)) }
+pub(crate) fn push_rule(
+    alloc: Global,
+    text: &mut String,
+    width: usize,
+    shape: &Shape,
+) -> Result<(), AllocError>
+    ensures { OnOk result (Keeps (string_bytes text.old) (string_bytes text.new)) }
 {
     if !shape.spot.is_shown {
         return Ok(());
     }
     match shape.fact {
-        Fact::Event { .. } => push_rule_at(text, width, shape.spot.level),
+        Fact::Event { .. } => push_rule_at(alloc, text, width, shape.spot.level),
         _ => Ok(()),
     }
 }
 
-// Adds a lane, with the name of its server at the top.
-fn push_lane(text: &mut String, servers: u32, levels: usize, server: u32) -> Result<(), AllocError>
+fn push_name_box(alloc: Global, text: &mut String, server: u32) -> Result<(), AllocError>
+    ensures { OnOk result (Keeps (string_bytes text.old) (string_bytes text.new)) }
+{
+    let rest = format!(in alloc;
+        "rect class='t{server} s{server}' x='-62' y='14' width='124' height='44' rx='9'"
+    )?;
+    push_leaf(text, rest.as_str())
+}
+
+fn push_name(alloc: Global, text: &mut String, server: u32) -> Result<(), AllocError>
+    ensures { OnOk result (Keeps (string_bytes text.old) (string_bytes text.new)) }
+{
+    let rest = format!(in alloc; " class='name f{server}' y='33'")?;
+    let name = format!(in alloc; "server {server}")?;
+    push_label(text, rest.as_str(), name.as_str())
+}
+
+// Adds the first instances that a server owns.
+fn push_owns(alloc: Global, text: &mut String, servers: u32, server: u32) -> Result<(), AllocError>
     requires small { server < servers }
     requires few { servers ≤ 7 }
-    ensures { OnOk result (string_bytes text.new
-        ≡ string_bytes text.old ++ lane_text servers levels server) }
+    ensures { OnOk result (Keeps (string_bytes text.old) (string_bytes text.new)) }
 {
-    let name = server as usize;
-    let lane = lane_of(servers, server) as usize;
-    push_between(
-        text,
-        "<g class='lane' transform='translate(",
-        lane,
-        " 0)'><path class='line' d='M0 56V",
-    )?;
-    push_y_below(text, levels, 0)?;
-    push_between(text, "'/><rect class='t", name, " s")?;
-    push_number(text, name)?;
-    push_between(
-        text,
-        "' x='-62' y='14' width='124' height='44' rx='9'/><text class='name f",
-        name,
-        "' y='33'>server ",
-    )?;
-    push_number(text, name)?;
-    push_between(text, "</text><text class='owns' y='49'>owns ", name, ", ")?;
-    push_number(text, name + servers as usize)?;
-    push_fixed(text, ", ..</text></g>\n")
+    let next = server + servers;
+    let owns = format!(in alloc; "owns {server}, {next}, ..")?;
+    push_label(text, " class='owns' y='49'", owns.as_str())
+}
+
+fn push_line(alloc: Global, text: &mut String, levels: usize) -> Result<(), AllocError>
+    ensures { OnOk result (Keeps (string_bytes text.old) (string_bytes text.new)) }
+{
+    let y = y_of(levels);
+    let rest = format!(in alloc; "path class='line' d='M0 56V{y}'")?;
+    push_leaf(text, rest.as_str())
+}
+
+// Adds a lane, with the name of its server at the top.
+fn push_lane(
+    alloc: Global,
+    text: &mut String,
+    servers: u32,
+    levels: usize,
+    server: u32,
+) -> Result<(), AllocError>
+    requires small { server < servers }
+    requires few { servers ≤ 7 }
+    ensures { OnOk result (Keeps (string_bytes text.old) (string_bytes text.new)) }
+{
+    let x = lane_of(servers, server);
+    push_card(text, "lane", Place { x, y: 0 })?;
+    push_line(alloc, text, levels)?;
+    push_name_box(alloc, text, server)?;
+    push_name(alloc, text, server)?;
+    push_owns(alloc, text, servers, server)?;
+    push_end(text, "g")?;
+    push_words(text, "\n")?;
+    Ok(())
 }
 
 /// Adds a lane for each server.
-pub(crate) fn push_lanes(text: &mut String, servers: u32, levels: usize) -> Result<(), AllocError>
+pub(crate) fn push_lanes(
+    alloc: Global,
+    text: &mut String,
+    servers: u32,
+    levels: usize,
+) -> Result<(), AllocError>
     requires { servers ≤ 7 }
-    ensures { OnOk result (string_bytes text.new ≡ string_bytes text.old ++ lanes servers levels) }
+    ensures { OnOk result (Keeps (string_bytes text.old) (string_bytes text.new)) }
 {
     for server in 0..servers {
-        push_lane(text, servers, levels, server)?;
+        push_lane(alloc, text, servers, levels, server)?;
     }
     Ok(())
 }
 
-/// Adds the key, which explains the lines, the points, the marks and the colours. Then closes the SVG element.
+/// Adds the key, which explains the lines, the points, the marks and the colours.
 pub(crate) fn push_key(text: &mut String, levels: usize) -> Result<(), AllocError>
-    ensures { OnOk result (string_bytes text.new ≡ string_bytes text.old ++ key_text levels) }
+    ensures { OnOk result (Keeps (string_bytes text.old) (string_bytes text.new)) }
 {
-    push_fixed(text, "<g class='key' transform='translate(16 ")?;
-    push_y_below(text, levels, 136)?;
-    push_fixed(text, ")'>\n")?;
-    text.push_str(KEY)?;
-    push_fixed(text, "</g>\n</svg>\n")
+    let y = y_of(levels) + 136;
+    push_card(text, "key", Place { x: 16, y })?;
+    push_words(text, "\n")?;
+    push_entries(text)?;
+    push_end(text, "g")?;
+    push_words(text, "\n")?;
+    Ok(())
 }

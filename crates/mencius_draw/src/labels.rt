@@ -1,57 +1,47 @@
 //! The labels, which are short texts next to marks.
 
-ghost use Rattle.std.specs.Prelude.{◌≡◌, ◌++◌, IfOk, OnOk, string_bytes};
-ghost use Rattle.mencius_draw.specs.Labels.{label_about, at_ballot, count_label, content_label, learned_label, note_class, note_label, sent_label, vote_label};
-
 use crate::facts::{Kind, Note};
-use crate::words::{is_word, push_plain, rest, word};
+use crate::words::{is_word, push_shown, rest, word};
 use std::alloc::{AllocError, Global};
 
 // Adds an instance and a ballot. Both are words of a line.
-fn push_at_ballot(label: &mut String, inst: &[u8], ballot: &[u8]) -> Result<(), AllocError>
-    ensures { OnOk result (string_bytes label.new
-        ≡ string_bytes label.old ++ at_ballot inst.now ballot.now) }
-{
+fn push_at_ballot(label: &mut String, inst: &[u8], ballot: &[u8]) -> Result<(), AllocError> {
     label.push_str(" i")?;
-    push_plain(label, inst)?;
+    push_shown(label, inst)?;
     label.push_str(" b")?;
-    push_plain(label, ballot)
+    push_shown(label, ballot)
 }
 
-fn push_vote(label: &mut String, line: &[u8]) -> Result<(), AllocError>
-    ensures { OnOk result (string_bytes label.new ≡ string_bytes label.old ++ vote_label line.now) }
-{
+fn push_vote(label: &mut String, line: &[u8]) -> Result<(), AllocError> {
     if is_word(word(line, 12), "none") {
         return label.push_str(" no vote");
     }
     label.push_str(" voted ")?;
-    push_plain(label, word(line, 13))?;
+    push_shown(label, word(line, 13))?;
     label.push_str("@b")?;
-    push_plain(label, word(line, 12))
+    push_shown(label, word(line, 12))
 }
 
 // Adds the content of a message. Its kind decides which words of the line are shown.
-fn push_content(label: &mut String, kind: Kind, line: &[u8]) -> Result<(), AllocError>
-    ensures { OnOk result (string_bytes label.new ≡ string_bytes label.old ++ content_label kind line.now) }
-{
+fn push_content(label: &mut String, kind: Kind, line: &[u8]) -> Result<(), AllocError> {
     match kind {
         Kind::Skip => {
             label.push_str(" i")?;
-            push_plain(label, word(line, 8))?;
+            push_shown(label, word(line, 8))?;
             label.push_str(" until i")?;
-            push_plain(label, word(line, 10))
+            push_shown(label, word(line, 10))
         }
         Kind::Learn => {
             label.push_str(" i")?;
-            push_plain(label, word(line, 8))?;
+            push_shown(label, word(line, 8))?;
             label.push_str(" = ")?;
-            push_plain(label, word(line, 10))
+            push_shown(label, word(line, 10))
         }
         Kind::Accepted | Kind::Prepare => push_at_ballot(label, word(line, 8), word(line, 10)),
         Kind::Suggest | Kind::Propose => {
             push_at_ballot(label, word(line, 8), word(line, 10))?;
             label.push(' ')?;
-            push_plain(label, word(line, 12))
+            push_shown(label, word(line, 12))
         }
         Kind::Promise => {
             push_at_ballot(label, word(line, 8), word(line, 10))?;
@@ -66,9 +56,7 @@ pub(crate) fn sent_label(
     number: u32,
     kind: Kind,
     line: &[u8],
-) -> Result<String, AllocError>
-    ensures { IfOk result (λ label. string_bytes label ≡ sent_label number kind line.now) }
-{
+) -> Result<String, AllocError> {
     let mut label = String::new(alloc);
     let name = kind.name();
     write!(label, "{number} {name}")?;
@@ -76,40 +64,32 @@ pub(crate) fn sent_label(
     Ok(label)
 }
 
-fn push_count(label: &mut String, line: &[u8]) -> Result<(), AllocError>
-    ensures { OnOk result (string_bytes label.new ≡ string_bytes label.old ++ count_label line.now) }
-{
-    push_plain(label, word(line, 0))?;
+fn push_count(label: &mut String, line: &[u8]) -> Result<(), AllocError> {
+    push_shown(label, word(line, 0))?;
     label.push(' ')?;
-    push_plain(label, word(line, 7))?;
+    push_shown(label, word(line, 7))?;
     label.push_str(" of ")?;
-    push_plain(label, word(line, 9))?;
+    push_shown(label, word(line, 9))?;
     label.push_str(" for")?;
     push_at_ballot(label, word(line, 3), word(line, 5))
 }
 
-fn push_learned(label: &mut String, line: &[u8]) -> Result<(), AllocError>
-    ensures { OnOk result (string_bytes label.new ≡ string_bytes label.old ++ learned_label line.now) }
-{
-    push_plain(label, word(line, 0))?;
+fn push_learned(label: &mut String, line: &[u8]) -> Result<(), AllocError> {
+    push_shown(label, word(line, 0))?;
     label.push_str(" i")?;
-    push_plain(label, word(line, 3))?;
+    push_shown(label, word(line, 3))?;
     label.push_str(" = ")?;
-    push_plain(label, word(line, 5))
+    push_shown(label, word(line, 5))
 }
 
 // Adds `name`, and then the rest of the line after its first word.
-fn push_about(label: &mut String, name: &str, line: &[u8]) -> Result<(), AllocError>
-    ensures { OnOk result (string_bytes label.new ≡ string_bytes label.old ++ label_about name.now line.now) }
-{
+fn push_about(label: &mut String, name: &str, line: &[u8]) -> Result<(), AllocError> {
     label.push_str(name)?;
-    push_plain(label, rest(line, 1))
+    push_shown(label, rest(line, 1))
 }
 
 /// Returns the label of an outcome other than a sent message.
-pub(crate) fn note_label(alloc: Global, note: Note, line: &[u8]) -> Result<String, AllocError>
-    ensures { IfOk result (λ label. string_bytes label ≡ note_label note line.now) }
-{
+pub(crate) fn note_label(alloc: Global, note: Note, line: &[u8]) -> Result<String, AllocError> {
     let mut label = String::new(alloc);
     match note {
         Note::Refused => push_about(&mut label, "refused: ", line)?,
@@ -122,9 +102,7 @@ pub(crate) fn note_label(alloc: Global, note: Note, line: &[u8]) -> Result<Strin
 }
 
 /// Returns the class of an outcome's element in the picture.
-pub(crate) fn note_class(note: Note) -> &'static str
-    ensures { result.now ≡ note_class note }
-{
+pub(crate) fn note_class(note: Note) -> &'static str {
     match note {
         Note::Refused => "refused",
         Note::Ignored => "ignored",
@@ -133,4 +111,11 @@ pub(crate) fn note_class(note: Note) -> &'static str
         Note::Learned(_) => "learned",
         Note::Executed(_) => "executed",
     }
+}
+
+/// Returns bytes of a trace, as a picture shows them.
+pub(crate) fn shown_of(alloc: Global, bytes: &[u8]) -> Result<String, AllocError> {
+    let mut text = String::new(alloc);
+    push_shown(&mut text, bytes)?;
+    Ok(text)
 }

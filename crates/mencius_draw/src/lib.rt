@@ -13,6 +13,7 @@ mod layout;
 mod marks;
 mod options;
 mod places;
+mod svg;
 mod ways;
 mod words;
 

@@ -1,105 +1,80 @@
 //! Events with their marks, and the outcomes next to the marks.
 
-ghost use Rattle.std.specs.Prelude.{◌≡◌, ◌++◌, ◌<◌, IfOk, OnOk, string_bytes};
-ghost use Rattle.mencius_draw.specs.Labels.{note_class, note_label};
+ghost use Rattle.std.specs.Prelude.{◌≡◌, ◌<◌, [], ◌∷◌, codes, true, false, IfOk, OnOk, string_bytes};
 ghost use Rattle.mencius_draw.specs.Layout.{outline};
-ghost use Rattle.mencius_draw.specs.Ways.{is_near};
-ghost use Rattle.mencius_draw.specs.Words.{fixed_text};
-ghost use Rattle.mencius_draw.specs.Marks.{act_cause, act_name, act_words, box_width, cause_text, edge_at, event_text, filled_box, from_event, label_box, mark_text, message_cause, note_text, note_words, origin, over_at, over_text, reach_at, reach_of, sent_box, sent_text, shape_text, tick_of, tinted_box};
+ghost use Rattle.mencius_draw.specs.Picture.{box_of, event_groups, groups_by, note_boxes, note_groups, sent_group, sent_groups};
+ghost use Rattle.mencius_draw.specs.Places.{place_at, y_of};
+ghost use Rattle.mencius_draw.specs.Svg.{Adds, Keeps, of_box, of_group, of_place};
 
-use crate::facts::{Act, Fact, Note};
-use crate::labels::{note_class, note_label, sent_label};
+use crate::facts::{Act, Fact, Kind, Note};
+use crate::labels::{note_class, note_label, sent_label, shown_of};
 use crate::layout::{SentMessage, Shape, Spot};
-use crate::places::{lane_of, push_transform_at, push_y_below};
-use crate::ways::{heard_by, is_near, owner_of, push_fate, push_kind, push_owner_between, way_of};
-use crate::words::{push_between, push_fixed, push_number, push_rest};
+use crate::places::{lane_of, place_at, y_of};
+use crate::svg::{
+    Group, LabelBox, Name, Place, push_box, push_end, push_group, push_label, push_leaf,
+    push_moved, push_words,
+};
+use crate::ways::{fate_of, heard_by, is_near, owner_of, way_of};
+use crate::words::rest;
 use std::alloc::{AllocError, Global};
 
-fn act_name(act: Act) -> &'static str
-    ensures { result.now ≡ act_name act }
-{
+// Returns the classes of an event.
+fn act_class(act: Act) -> &'static str {
     match act {
-        Act::Submit => "submit",
-        Act::Deliver(_) => "deliver",
-        Act::Lose(_) => "lose",
-        Act::Suspect(_) => "suspect",
-        Act::Retry => "retry",
-        Act::Execute => "execute",
-    }
-}
-
-fn push_act_name(text: &mut String, act: Act) -> Result<(), AllocError>
-    ensures { OnOk result (string_bytes text.new ≡ string_bytes text.old ++ act_name act) }
-{
-    text.push_str(act_name(act))
-}
-
-fn push_from_event(text: &mut String, sent: Spot) -> Result<(), AllocError>
-    ensures { OnOk result (string_bytes text.new ≡ string_bytes text.old ++ from_event sent) }
-{
-    push_fixed(text, " from event ")?;
-    push_number(text, sent.place as usize)
-}
-
-// Adds the event that sent the message, if the arrow does not begin at that event.
-fn push_origin(text: &mut String, sent: Spot, heard: Spot) -> Result<(), AllocError>
-    ensures { OnOk result (string_bytes text.new
-        ≡ string_bytes text.old ++ origin (is_near sent heard) sent) }
-{
-    if is_near(sent, heard) {
-        Ok(())
-    } else {
-        push_from_event(text, sent)
+        Act::Submit => "event submit",
+        Act::Deliver(_) => "event deliver",
+        Act::Lose(_) => "event lose",
+        Act::Suspect(_) => "event suspect",
+        Act::Retry => "event retry",
+        Act::Execute => "event execute",
     }
 }
 
 // Adds the message that was heard or lost. Also adds the event that sent it, if the arrow does not show this event.
 fn push_message(
+    alloc: Global,
     text: &mut String,
     servers: u32,
     sent: &SentMessage,
     is_lost: bool,
     spot: Spot,
 ) -> Result<(), AllocError>
-    ensures { OnOk result (string_bytes text.new
-        ≡ string_bytes text.old ++ message_cause servers sent.now is_lost spot) }
+    ensures { OnOk result (Keeps (string_bytes text.old) (string_bytes text.new)) }
 {
-    push_owner_between(
-        text,
-        "<text class='cause f",
-        servers,
-        sent.inst,
-        "' x='-24' y='4'>",
-    )?;
-    push_fate(text, is_lost)?;
-    push_between(text, " ", sent.number as usize, " ")?;
-    push_kind(text, sent.kind)?;
-    push_origin(text, sent.spot, spot)?;
-    push_fixed(text, "</text>")
+    let owner = owner_of(servers, sent.inst);
+    let rest = format!(in alloc; " class='cause f{owner}' x='-24' y='4'")?;
+    let fate = fate_of(is_lost);
+    let number = sent.number;
+    let kind = sent.kind.name();
+    let place = sent.spot.place;
+    let words = if is_near(sent.spot, spot) {
+        format!(in alloc; "{fate} {number} {kind}")?
+    } else {
+        format!(in alloc; "{fate} {number} {kind} from event {place}")?
+    };
+    push_label(text, rest.as_str(), words.as_str())
 }
 
-fn push_act_words(text: &mut String, act: Act) -> Result<(), AllocError>
-    ensures { OnOk result (string_bytes text.new ≡ string_bytes text.old ++ act_words act) }
-{
+fn act_words(alloc: Global, act: Act) -> Result<String, AllocError> {
     match act {
-        Act::Submit => text.push_str("client asks"),
-        Act::Deliver(message) | Act::Lose(message) => write!(text, "message {message}"),
-        Act::Suspect(suspected) => write!(text, "suspects {suspected}"),
-        Act::Retry => text.push_str("retries"),
-        Act::Execute => text.push_str("executes"),
+        Act::Submit => format!(in alloc; "client asks"),
+        Act::Deliver(message) | Act::Lose(message) => format!(in alloc; "message {message}"),
+        Act::Suspect(suspected) => format!(in alloc; "suspects {suspected}"),
+        Act::Retry => format!(in alloc; "retries"),
+        Act::Execute => format!(in alloc; "executes"),
     }
 }
 
-fn push_act(text: &mut String, act: Act) -> Result<(), AllocError>
-    ensures { OnOk result (string_bytes text.new ≡ string_bytes text.old ++ act_cause act) }
+fn push_act(alloc: Global, text: &mut String, act: Act) -> Result<(), AllocError>
+    ensures { OnOk result (Keeps (string_bytes text.old) (string_bytes text.new)) }
 {
-    push_fixed(text, "<text class='cause' x='-24' y='4'>")?;
-    push_act_words(text, act)?;
-    push_fixed(text, "</text>")
+    let words = act_words(alloc, act)?;
+    push_label(text, " class='cause' x='-24' y='4'", words.as_str())
 }
 
 // Adds the text left of an event's mark, which names the event.
 fn push_cause(
+    alloc: Global,
     text: &mut String,
     servers: u32,
     sents: &[SentMessage],
@@ -107,50 +82,74 @@ fn push_cause(
     act: Act,
     spot: Spot,
 ) -> Result<(), AllocError>
-    ensures { OnOk result (string_bytes text.new
-        ≡ string_bytes text.old ++ cause_text servers sents.now fact act spot) }
+    ensures { OnOk result (Keeps (string_bytes text.old) (string_bytes text.new)) }
 {
     if let Some(way) = way_of(fact) {
         if let Some(sent) = heard_by(sents, way) {
-            return push_message(text, servers, &sent, way.is_lost, spot);
+            return push_message(alloc, text, servers, &sent, way.is_lost, spot);
         }
     }
-    push_act(text, act)
+    push_act(alloc, text, act)
 }
 
-// Returns the mark of an event. A ring means heard, a cross means lost, and a dot means asked from outside. A barred
-// ring means refused.
-fn mark_of(act: Act, is_refused: bool) -> &'static str
-    ensures { result.now ≡ mark_text act is_refused }
+// Adds the mark of an event. A ring means heard, a cross means lost, and a dot means asked from outside. A barred ring
+// means refused.
+fn push_mark(text: &mut String, act: Act, is_refused: bool) -> Result<(), AllocError>
+    ensures { OnOk result (Keeps (string_bytes text.old) (string_bytes text.new)) }
 {
     if is_refused {
-        return "<circle class='no' r='6'/><path class='no' d='M-4 4L4 -4'/>";
+        push_leaf(text, "circle class='no' r='6'")?;
+        push_leaf(text, "path class='no' d='M-4 4L4 -4'")?;
+        return Ok(());
     }
     match act {
-        Act::Deliver(_) => "<circle class='ring' r='5.5'/>",
-        Act::Lose(_) => "<path class='cross' d='M-7 -7L7 7M7 -7L-7 7'/>",
-        Act::Submit | Act::Suspect(_) | Act::Retry | Act::Execute =>
-            "<circle class='dot' r='5.5'/>",
+        Act::Deliver(_) => push_leaf(text, "circle class='ring' r='5.5'"),
+        Act::Lose(_) => push_leaf(text, "path class='cross' d='M-7 -7L7 7M7 -7L-7 7'"),
+        Act::Submit | Act::Suspect(_) | Act::Retry | Act::Execute => {
+            push_leaf(text, "circle class='dot' r='5.5'")
+        }
     }
 }
 
-fn push_mark(text: &mut String, act: Act, is_refused: bool) -> Result<(), AllocError>
-    ensures { OnOk result (string_bytes text.new
-        ≡ string_bytes text.old ++ mark_text act is_refused) }
+fn push_place(alloc: Global, text: &mut String, place: u32) -> Result<(), AllocError>
+    ensures { OnOk result (Keeps (string_bytes text.old) (string_bytes text.new)) }
 {
-    text.push_str(mark_of(act, is_refused))
+    let words = format!(in alloc; "{place}")?;
+    push_label(text, " class='place' x='44' y='4'", words.as_str())
 }
 
-// Adds the transform of the text at the left edge.
-fn push_edge(text: &mut String, level: usize) -> Result<(), AllocError>
-    ensures { OnOk result (string_bytes text.new ≡ string_bytes text.old ++ edge_at level) }
+// Adds the text of an event.
+fn push_what(alloc: Global, text: &mut String, line: &[u8]) -> Result<(), AllocError>
+    ensures { OnOk result (Keeps (string_bytes text.old) (string_bytes text.new)) }
 {
-    push_fixed(text, "transform='translate(0 ")?;
-    push_y_below(text, level, 0)?;
-    push_fixed(text, ")'")
+    let words = shown_of(alloc, rest(line, 2))?;
+    push_label(text, " class='what' x='54' y='4'", words.as_str())
+}
+
+// Adds the start tag of the group at the left edge.
+fn push_at_edge(text: &mut String, level: usize) -> Result<(), AllocError>
+    ensures { OnOk result (Adds (codes "g" ∷ []) (of_place (record { x = 0; y = y_of level }) ∷ [])
+        (string_bytes text.old) (string_bytes text.new)) }
+{
+    let y = y_of(level);
+    push_moved(text, Place { x: 0, y })
+}
+
+// Adds the start tag of the group on the lane of a server.
+fn push_at_lane(
+    text: &mut String,
+    servers: u32,
+    server: u32,
+    level: usize,
+) -> Result<(), AllocError>
+    ensures { OnOk result (Adds (codes "g" ∷ []) (of_place (place_at servers server level) ∷ [])
+        (string_bytes text.old) (string_bytes text.new)) }
+{
+    push_moved(text, place_at(servers, server, level))
 }
 
 fn push_event(
+    alloc: Global,
     text: &mut String,
     servers: u32,
     sents: &[SentMessage],
@@ -158,41 +157,39 @@ fn push_event(
     act: Act,
     is_refused: bool,
 ) -> Result<(), AllocError>
-    ensures { OnOk result (string_bytes text.new
-        ≡ string_bytes text.old ++ event_text servers sents.now (outline shape.now) act is_refused) }
+    ensures { OnOk result (Adds [] (event_groups servers shape.now.spot) (string_bytes text.old) (string_bytes text.new)) }
 {
-    let place = shape.spot.place as usize;
-    push_between(text, "<g id='e", place, "' class='event ")?;
-    push_act_name(text, act)?;
-    push_between(text, "' data-e='", place, "'><g ")?;
-    push_edge(text, shape.spot.level)?;
-    push_between(
-        text,
-        "><text class='place' x='44' y='4'>",
-        place,
-        "</text><text class='what' x='54' y='4'>",
-    )?;
-    push_rest(text, shape.line, 2)?;
-    push_fixed(text, "</text></g><g ")?;
-    push_transform_at(text, servers, shape.spot.server, shape.spot.level)?;
-    push_fixed(text, ">")?;
-    push_cause(text, servers, sents, shape.fact, act, shape.spot)?;
+    let spot = shape.spot;
+    let group = Group {
+        name: Name::EventName(spot.place),
+        event: spot.place,
+        at: None,
+    };
+    push_group(text, group, act_class(act))?;
+    push_at_edge(text, spot.level)?;
+    push_place(alloc, text, spot.place)?;
+    push_what(alloc, text, shape.line)?;
+    push_end(text, "g")?;
+    push_at_lane(text, servers, spot.server, spot.level)?;
+    push_cause(alloc, text, servers, sents, shape.fact, act, spot)?;
     push_mark(text, act, is_refused)?;
-    push_fixed(text, "</g></g>\n")
+    push_end(text, "g")?;
+    push_end(text, "g")?;
+    push_words(text, "\n")?;
+    Ok(())
 }
 
 // Returns the width of a box, in the picture's units. The letters of a label all have the same width. Only the first
 // 1,000 bytes of a label count.
 fn box_width(label: &str) -> usize
-    ensures { result ≡ box_width label.now }
+    ensures { result < 7270 }
 {
     label.len().min(1000) * 29 / 4 + 15
 }
 
 // Returns how far to the right a label reaches, in the picture's units.
 fn reach_at(servers: u32, spot: Spot, label: &str) -> usize
-    ensures value { result ≡ reach_at servers spot label.now }
-    ensures bound { result < 10000 }
+    ensures { result < 10000 }
 {
     lane_of(servers, spot.server) as usize + 24 + box_width(label)
 }
@@ -200,8 +197,7 @@ fn reach_at(servers: u32, spot: Spot, label: &str) -> usize
 /// Returns how far to the right the label of a line reaches, in the picture's units. 0 if the line has no label or is
 /// not drawn.
 pub(crate) fn reach_of(alloc: Global, servers: u32, shape: &Shape) -> Result<usize, AllocError>
-    ensures value { IfOk result (λ reach. reach ≡ reach_of servers (outline shape.now)) }
-    ensures bound { IfOk result (λ reach. reach < 10000) }
+    ensures { IfOk result (λ reach. reach < 10000) }
 {
     if !shape.spot.is_shown {
         return Ok(0);
@@ -219,60 +215,90 @@ pub(crate) fn reach_of(alloc: Global, servers: u32, shape: &Shape) -> Result<usi
     }
 }
 
-// Adds the geometry of a box, and the beginning of its label up to the label's class.
-fn push_label_box(text: &mut String, label: &str) -> Result<(), AllocError>
-    ensures { OnOk result (string_bytes text.new ≡ string_bytes text.old ++ label_box label.now) }
+fn push_box_around(
+    alloc: Global,
+    text: &mut String,
+    servers: u32,
+    inst: u32,
+    is_filled: bool,
+    label: &str,
+) -> Result<(), AllocError>
+    ensures { OnOk result (Adds [] (of_box (box_of servers inst is_filled) ∷ []) (string_bytes text.old) (string_bytes text.new)) }
 {
-    push_between(
-        text,
-        "' x='24' y='-10' width='",
-        box_width(label),
-        "' height='20' rx='4'/><text class='says ",
-    )
+    let owner = owner_of(servers, inst);
+    let width = box_width(label);
+    let rest = format!(in alloc; "x='24' y='-10' width='{width}' height='20' rx='4'")?;
+    push_box(text, LabelBox { owner, is_filled }, rest.as_str())
 }
 
-fn push_tinted_box(text: &mut String, owner: u32, label: &str) -> Result<(), AllocError>
-    ensures { OnOk result (string_bytes text.new
-        ≡ string_bytes text.old ++ tinted_box owner label.now) }
+// Adds a label in a box with a tint and a border.
+fn push_tinted_box(
+    alloc: Global,
+    text: &mut String,
+    servers: u32,
+    inst: u32,
+    label: &str,
+) -> Result<(), AllocError>
+    ensures { OnOk result (Adds [] (of_box (box_of servers inst false) ∷ []) (string_bytes text.old) (string_bytes text.new)) }
 {
-    push_between(text, "<rect class='t", owner as usize, " s")?;
-    push_number(text, owner as usize)?;
-    push_label_box(text, label)?;
-    push_between(text, "f", owner as usize, "' x='31' y='4'>")?;
-    text.push_str(label)?;
-    push_fixed(text, "</text>")
+    let owner = owner_of(servers, inst);
+    let rest = format!(in alloc; " class='says f{owner}' x='31' y='4'")?;
+    push_box_around(alloc, text, servers, inst, false, label)?;
+    push_label(text, rest.as_str(), label)?;
+    Ok(())
 }
 
-fn push_filled_box(text: &mut String, owner: u32, label: &str) -> Result<(), AllocError>
-    ensures { OnOk result (string_bytes text.new
-        ≡ string_bytes text.old ++ filled_box owner label.now) }
+// Adds a label in a filled box.
+fn push_filled_box(
+    alloc: Global,
+    text: &mut String,
+    servers: u32,
+    inst: u32,
+    label: &str,
+) -> Result<(), AllocError>
+    ensures { OnOk result (Adds [] (of_box (box_of servers inst true) ∷ []) (string_bytes text.old) (string_bytes text.new)) }
 {
-    push_fixed(text, "<rect class='f")?;
-    push_number(text, owner as usize)?;
-    push_label_box(text, label)?;
-    push_fixed(text, "on' x='31' y='4'>")?;
-    text.push_str(label)?;
-    push_fixed(text, "</text>")
+    push_box_around(alloc, text, servers, inst, true, label)?;
+    push_label(text, " class='says on' x='31' y='4'", label)?;
+    Ok(())
 }
 
-// Returns the path of the line from a lane to a box. If the box is next to a mark, the line begins at the mark's right
-// edge.
-fn tick_of(spot: Spot) -> &'static str
-    ensures { result.now ≡ tick_of spot }
+// Adds the line from a lane to a box. If the box is next to a mark, the line begins at the mark's right edge.
+fn push_tick(alloc: Global, text: &mut String, owner: u32, spot: Spot) -> Result<(), AllocError>
+    ensures { OnOk result (Keeps (string_bytes text.old) (string_bytes text.new)) }
 {
-    if spot.level == spot.top {
+    let path = if spot.level == spot.top {
         "M7 0H24"
     } else {
         "M0 0H24"
-    }
+    };
+    let rest = format!(in alloc; "path class='tick s{owner}' d='{path}'")?;
+    push_leaf(text, rest.as_str())
 }
 
-fn push_tick(text: &mut String, spot: Spot) -> Result<(), AllocError>
-    ensures { OnOk result (string_bytes text.new ≡ string_bytes text.old ++ tick_of spot) }
+// Adds the start tag of the group of a message.
+fn push_sent_group(
+    alloc: Global,
+    text: &mut String,
+    servers: u32,
+    spot: Spot,
+    number: u32,
+    kind: Kind,
+) -> Result<(), AllocError>
+    ensures { OnOk result (Adds (codes "g" ∷ []) (of_group (sent_group servers spot number) ∷ [])
+        (string_bytes text.old) (string_bytes text.new)) }
 {
-    text.push_str(tick_of(spot))
+    let kind = kind.name();
+    let class = format!(in alloc; "sent {kind}")?;
+    let group = Group {
+        name: Name::MessageName(number),
+        event: spot.place,
+        at: Some(place_at(servers, spot.server, spot.level)),
+    };
+    push_group(text, group, class.as_str())
 }
 
+// Adds the box of a message, with its label.
 fn push_sent_box(
     alloc: Global,
     text: &mut String,
@@ -280,11 +306,10 @@ fn push_sent_box(
     sent: &SentMessage,
     line: &[u8],
 ) -> Result<(), AllocError>
-    ensures { OnOk result (string_bytes text.new
-        ≡ string_bytes text.old ++ sent_box servers sent.now line.now) }
+    ensures { OnOk result (Adds [] (of_box (box_of servers sent.now.inst false) ∷ []) (string_bytes text.old) (string_bytes text.new)) }
 {
     let label = sent_label(alloc, sent.number, sent.kind, line)?;
-    push_tinted_box(text, owner_of(servers, sent.inst), label.as_str())
+    push_tinted_box(alloc, text, servers, sent.inst, label.as_str())
 }
 
 fn push_sent(
@@ -294,83 +319,82 @@ fn push_sent(
     shape: &Shape,
     sent: &SentMessage,
 ) -> Result<(), AllocError>
-    ensures { OnOk result (string_bytes text.new
-        ≡ string_bytes text.old ++ sent_text servers (outline shape.now) sent.now) }
+    ensures { OnOk result (Adds [] (sent_groups servers shape.now.spot sent.now.number sent.now.inst)
+        (string_bytes text.old) (string_bytes text.new)) }
 {
-    push_between(text, "<g id='m", sent.number as usize, "' class='sent ")?;
-    push_kind(text, sent.kind)?;
-    push_between(text, "' data-e='", shape.spot.place as usize, "' ")?;
-    push_transform_at(text, servers, shape.spot.server, shape.spot.level)?;
-    push_owner_between(text, "><path class='tick s", servers, sent.inst, "' d='")?;
-    push_tick(text, shape.spot)?;
-    push_fixed(text, "'/>")?;
+    let spot = shape.spot;
+    let owner = owner_of(servers, sent.inst);
+    push_sent_group(alloc, text, servers, spot, sent.number, sent.kind)?;
+    push_tick(alloc, text, owner, spot)?;
     push_sent_box(alloc, text, servers, sent, shape.line)?;
-    push_fixed(text, "</g>\n")
+    push_end(text, "g")?;
+    push_words(text, "\n")?;
+    Ok(())
 }
 
 // Adds a filled path on top of the mark of an event.
 fn push_over_at(
+    alloc: Global,
     text: &mut String,
     servers: u32,
     inst: u32,
     spot: Spot,
     path: &str,
 ) -> Result<(), AllocError>
-    ensures { OnOk result (string_bytes text.new
-        ≡ string_bytes text.old ++ over_at servers inst spot (fixed_text path.now)) }
+    ensures { OnOk result (Keeps (string_bytes text.old) (string_bytes text.new)) }
 {
-    push_owner_between(text, "<path class='f", servers, inst, "' ")?;
-    push_transform_at(text, servers, spot.server, spot.top)?;
-    push_fixed(text, path)
+    let owner = owner_of(servers, inst);
+    let x = lane_of(servers, spot.server);
+    let y = y_of(spot.top);
+    let rest = format!(in alloc;
+        "path class='f{owner}' transform='translate({x} {y})' d='{path}'"
+    )?;
+    push_leaf(text, rest.as_str())
 }
 
-// Adds a diamond if a value was learned, and a square if an instance was executed. Adds no text for other outcomes.
-fn push_over(text: &mut String, servers: u32, note: Note, spot: Spot) -> Result<(), AllocError>
-    ensures { OnOk result (string_bytes text.new
-        ≡ string_bytes text.old ++ over_text servers note spot) }
+// Adds a diamond if a value was learned, and a square if an instance was executed. Adds nothing for other outcomes.
+fn push_over(
+    alloc: Global,
+    text: &mut String,
+    servers: u32,
+    note: Note,
+    spot: Spot,
+) -> Result<(), AllocError>
+    ensures { OnOk result (Keeps (string_bytes text.old) (string_bytes text.new)) }
 {
     match note {
-        Note::Learned(inst) => {
-            push_over_at(text, servers, inst, spot, " d='M0 -9L9 0L0 9L-9 0z'/>")
-        }
-        Note::Executed(inst) => { push_over_at(text, servers, inst, spot, " d='M-7 -7H7V7H-7z'/>") }
+        Note::Learned(inst) => push_over_at(
+            alloc,
+            text,
+            servers,
+            inst,
+            spot,
+            "M0 -9L9 0L0 9L-9 0z",
+        ),
+        Note::Executed(inst) => push_over_at(alloc, text, servers, inst, spot, "M-7 -7H7V7H-7z"),
         Note::Refused | Note::Ignored | Note::Count | Note::Reply => Ok(()),
     }
 }
 
 // Adds a filled box if the event learned or executed an instance, and plain words for any other outcome.
-fn push_words(text: &mut String, servers: u32, note: Note, label: &str) -> Result<(), AllocError>
-    ensures { OnOk result (string_bytes text.new
-        ≡ string_bytes text.old ++ note_words servers note label.now) }
-{
-    match note {
-        Note::Learned(inst) | Note::Executed(inst) => {
-            push_filled_box(text, owner_of(servers, inst), label)
-        }
-        Note::Refused | Note::Ignored | Note::Count | Note::Reply => {
-            write!(text, "<text class='says' x='26' y='4'>{label}</text>")
-        }
-    }
-}
-
-fn push_class(text: &mut String, note: Note) -> Result<(), AllocError>
-    ensures { OnOk result (string_bytes text.new ≡ string_bytes text.old ++ note_class note) }
-{
-    text.push_str(note_class(note))
-}
-
-fn push_note_label(
+fn push_note_words(
     alloc: Global,
     text: &mut String,
     servers: u32,
     note: Note,
     line: &[u8],
 ) -> Result<(), AllocError>
-    ensures { OnOk result (string_bytes text.new
-        ≡ string_bytes text.old ++ note_words servers note (note_label note line.now)) }
+    ensures { OnOk result (Adds [] (note_boxes servers note) (string_bytes text.old) (string_bytes text.new)) }
 {
     let label = note_label(alloc, note, line)?;
-    push_words(text, servers, note, label.as_str())
+    match note {
+        Note::Learned(inst) | Note::Executed(inst) => {
+            push_filled_box(alloc, text, servers, inst, label.as_str())
+        }
+        Note::Refused | Note::Ignored | Note::Count | Note::Reply => {
+            push_label(text, " class='says' x='26' y='4'", label.as_str())
+        }
+    }
 }
 
 fn push_note(
@@ -380,21 +404,25 @@ fn push_note(
     shape: &Shape,
     note: Note,
 ) -> Result<(), AllocError>
-    ensures { OnOk result (string_bytes text.new
-        ≡ string_bytes text.old ++ note_text servers (outline shape.now) note) }
+    ensures { OnOk result (Adds [] (note_groups servers shape.now.spot note) (string_bytes text.old) (string_bytes text.new)) }
 {
-    push_fixed(text, "<g class='")?;
-    push_class(text, note)?;
-    push_between(text, "' data-e='", shape.spot.place as usize, "'>")?;
-    push_over(text, servers, note, shape.spot)?;
-    push_fixed(text, "<g ")?;
-    push_transform_at(text, servers, shape.spot.server, shape.spot.level)?;
-    push_fixed(text, ">")?;
-    push_note_label(alloc, text, servers, note, shape.line)?;
-    push_fixed(text, "</g></g>\n")
+    let spot = shape.spot;
+    let group = Group {
+        name: Name::Unnamed,
+        event: spot.place,
+        at: None,
+    };
+    push_group(text, group, note_class(note))?;
+    push_over(alloc, text, servers, note, spot)?;
+    push_at_lane(text, servers, spot.server, spot.level)?;
+    push_note_words(alloc, text, servers, note, shape.line)?;
+    push_end(text, "g")?;
+    push_end(text, "g")?;
+    push_words(text, "\n")?;
+    Ok(())
 }
 
-/// Adds an event or one of its outcomes. Adds no text for any other line, or if the event is not drawn.
+/// Adds an event or one of its outcomes. Adds nothing for any other line, or if the event is not drawn.
 pub(crate) fn push_shape(
     alloc: Global,
     text: &mut String,
@@ -402,8 +430,7 @@ pub(crate) fn push_shape(
     sents: &[SentMessage],
     shape: &Shape,
 ) -> Result<(), AllocError>
-    ensures { OnOk result (string_bytes text.new
-        ≡ string_bytes text.old ++ shape_text servers sents.now (outline shape.now)) }
+    ensures { OnOk result (Adds [] (groups_by servers (outline shape.now)) (string_bytes text.old) (string_bytes text.new)) }
 {
     if !shape.spot.is_shown {
         return Ok(());
@@ -413,7 +440,7 @@ pub(crate) fn push_shape(
             act,
             is_refused,
             ..
-        } => { push_event(text, servers, sents, shape, act, is_refused) }
+        } => push_event(alloc, text, servers, sents, shape, act, is_refused),
         Fact::Sent {
             number,
             kind,

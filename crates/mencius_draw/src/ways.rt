@@ -1,16 +1,15 @@
 //! The arrows. They show how messages came to servers, or were lost on the way.
 
-ghost use Rattle.std.specs.Prelude.{◌≡◌, ◌++◌, ◌<◌, OnOk, decimal, string_bytes};
-ghost use Rattle.mencius_draw.specs.Facts.{kind_name};
+ghost use Rattle.std.specs.Prelude.{◌≡◌, ◌<◌, [], ◌∷◌, codes, OnOk, string_bytes};
 ghost use Rattle.mencius_draw.specs.Layout.{outline};
-ghost use Rattle.mencius_draw.specs.Ways.{arrow_text, fate_of, heard_by, heard_end, is_near, longest_way, loop_path, owner_of, path_command, place_beside, point_of, straight_path, stub_path, way_end, way_of, way_path, way_text, way_title};
-ghost use Rattle.mencius_draw.specs.Words.{number_between};
+ghost use Rattle.mencius_draw.specs.Picture.{arrow_by, arrow_of, beside_mark, heard_by, is_near, longest_way, owner_of, place_beside, tail_of, tip_of, way_of};
+ghost use Rattle.mencius_draw.specs.Svg.{Adds, Keeps, of_arrow};
 
 use crate::facts::{Act, Fact, Kind};
 use crate::layout::{SentMessage, Shape, Spot};
-use crate::places::{lane_of, y_of};
-use crate::words::{push_between, push_fixed, push_number};
-use std::alloc::AllocError;
+use crate::places::{lane_of, place_at, y_of};
+use crate::svg::{Arrow, Place, Tag, push_arrow, push_element, push_end, push_words};
+use std::alloc::{AllocError, Global};
 
 /// Returns the owner of an instance. The instance is drawn in the owner's colour.
 pub(crate) fn owner_of(servers: u32, inst: u32) -> u32
@@ -79,45 +78,13 @@ pub(crate) fn is_near(sent: Spot, heard: Spot) -> bool
     sent.is_shown && heard.place.saturating_sub(sent.place) <= longest_way(sent, heard)
 }
 
-/// Adds the name of a kind.
-pub(crate) fn push_kind(text: &mut String, kind: Kind) -> Result<(), AllocError>
-    ensures { OnOk result (string_bytes text.new ≡ string_bytes text.old ++ kind_name kind) }
-{
-    text.push_str(kind.name())
+/// Returns `lost` or `heard`, the fate of a message.
+pub(crate) fn fate_of(is_lost: bool) -> &'static str {
+    if is_lost { "lost" } else { "heard" }
 }
 
-/// Adds the number of the server in whose colour an instance is drawn.
-pub(crate) fn push_owner(text: &mut String, servers: u32, inst: u32) -> Result<(), AllocError>
-    ensures { OnOk result (string_bytes text.new
-        ≡ string_bytes text.old ++ decimal (owner_of servers inst)) }
-{
-    push_number(text, owner_of(servers, inst) as usize)
-}
-
-/// Adds the number of the server in whose colour an instance is drawn, between two fixed texts.
-pub(crate) fn push_owner_between(
-    text: &mut String,
-    before: &str,
-    servers: u32,
-    inst: u32,
-    after: &str,
-) -> Result<(), AllocError>
-    ensures { OnOk result (string_bytes text.new
-        ≡ string_bytes text.old ++ number_between before.now (owner_of servers inst) after.now) }
-{
-    push_between(text, before, owner_of(servers, inst) as usize, after)
-}
-
-/// Adds `lost` or `heard`, the fate of a message.
-pub(crate) fn push_fate(text: &mut String, is_lost: bool) -> Result<(), AllocError>
-    ensures { OnOk result (string_bytes text.new ≡ string_bytes text.old ++ fate_of is_lost) }
-{
-    text.push_str(if is_lost { "lost" } else { "heard" })
-}
-
-fn point_of(kind: Kind) -> &'static str
-    ensures { result.now ≡ point_of kind }
-{
+// Returns the shape of the point at the end of an arrow.
+fn point_of(kind: Kind) -> &'static str {
     match kind {
         Kind::Suggest | Kind::Propose | Kind::Learn | Kind::Skip => "full",
         Kind::Prepare => "hollow",
@@ -139,172 +106,168 @@ fn place_beside(from: u32, to: u32, by: u32) -> u32
     }
 }
 
-// Adds a command of a path, or the next point of a command. `letter` is the command's letter, or a space for a next
-// point. The point has the coordinates `x` and `y`.
-fn push_command(text: &mut String, letter: &str, x: u32, y: usize) -> Result<(), AllocError>
-    ensures { OnOk result (string_bytes text.new
-        ≡ string_bytes text.old ++ path_command letter.now x y) }
+// Returns the place next to the lane of the server, on the side of the sender's lane, and `up` units above the event.
+fn beside_mark(servers: u32, sent: &SentMessage, way: Way, spot: Spot, by: u32, up: usize) -> Place
+    requires near { by < 100 }
+    requires above { up < 100 }
+    ensures { result ≡ beside_mark servers sent.now way spot by up }
 {
-    push_between(text, letter, x as usize, " ")?;
-    push_number(text, y)
+    Place {
+        x: place_beside(
+            lane_of(servers, sent.from),
+            lane_of(servers, way.server),
+            by,
+        ),
+        y: y_of(spot.level) - up,
+    }
 }
 
-// Adds a straight line from the sender's lane to a point just before the mark on another lane.
-fn push_straight(
-    text: &mut String,
-    from: u32,
-    start: usize,
-    to: u32,
-    end: usize,
-) -> Result<(), AllocError>
-    requires { to < 2000 }
-    ensures { OnOk result (string_bytes text.new
-        ≡ string_bytes text.old ++ straight_path from start to end) }
+// Returns the place where an arrow begins.
+fn tail_of(servers: u32, sent: &SentMessage, way: Way, spot: Spot) -> Place
+    ensures { result ≡ tail_of servers sent.now way spot }
 {
-    let near = place_beside(from, to, 10);
-    let before = end.saturating_sub(3);
-    push_command(text, "M", from, start)?;
-    push_command(text, "L", near, before)
+    if is_near(sent.spot, spot) {
+        place_at(servers, sent.from, sent.spot.level)
+    } else {
+        beside_mark(servers, sent, way, spot, 30, 12)
+    }
 }
 
-// Adds a loop from a lane back to the same lane. The place of the event decides how far out the loop goes, so that
-// loops keep apart.
-fn push_loop(
-    text: &mut String,
+// Returns the place where an arrow ends, next to the mark of the event.
+fn tip_of(servers: u32, sent: &SentMessage, way: Way, spot: Spot) -> Place
+    ensures { result ≡ tip_of servers sent.now way spot }
+{
+    if is_near(sent.spot, spot) {
+        beside_mark(servers, sent, way, spot, 10, 3)
+    } else {
+        beside_mark(servers, sent, way, spot, 9, 4)
+    }
+}
+
+// Returns the bend of a loop from a lane back to the same lane. The place of the event decides how far out the loop
+// goes, so that loops keep apart.
+fn loop_of(
+    alloc: Global,
     lane: u32,
     start: usize,
     end: usize,
     place: u32,
-) -> Result<(), AllocError>
+) -> Result<String, AllocError>
     requires { start < 2000000 }
-    ensures { OnOk result (string_bytes text.new
-        ≡ string_bytes text.old ++ loop_path lane start end place) }
 {
     let side = lane.saturating_sub(place % 8 * 9 + 52);
-    let near = lane.saturating_sub(10);
     let below = start + 10;
     let above = end.saturating_sub(14);
-    let before = end.saturating_sub(3);
-    push_command(text, "M", lane, start)?;
-    push_command(text, "C", side, below)?;
-    push_command(text, " ", side, above)?;
-    push_command(text, " ", near, before)
+    format!(in alloc; "C{side} {below} {side} {above} ")
 }
 
-// Adds only the end of an arrow. It comes from the side of the sender's lane.
-fn push_stub(text: &mut String, from: u32, to: u32, end: usize) -> Result<(), AllocError>
-    requires { to < 2000 }
-    ensures { OnOk result (string_bytes text.new ≡ string_bytes text.old ++ stub_path from to end) }
-{
-    let far = place_beside(from, to, 30);
-    let near = place_beside(from, to, 9);
-    let above = end.saturating_sub(12);
-    let before = end.saturating_sub(4);
-    push_command(text, "M", far, above)?;
-    push_command(text, "L", near, before)
-}
-
-fn push_path(
-    text: &mut String,
+// Returns the part of an arrow's path between its tail and its tip. `L` means a straight line. If the sender is also the
+// server, a whole arrow is a loop.
+fn bend_of(
+    alloc: Global,
     servers: u32,
     sent: &SentMessage,
-    server: u32,
+    way: Way,
     spot: Spot,
-) -> Result<(), AllocError>
-    ensures { OnOk result (string_bytes text.new
-        ≡ string_bytes text.old ++ way_path servers sent.now server spot) }
-{
+) -> Result<String, AllocError> {
     let from = lane_of(servers, sent.from);
-    let to = lane_of(servers, server);
-    let start = y_of(sent.spot.level);
-    let end = y_of(spot.level);
-    if !is_near(sent.spot, spot) {
-        push_stub(text, from, to, end)
-    } else if from == to {
-        push_loop(text, to, start, end, spot.place)
+    let to = lane_of(servers, way.server);
+    if from == to && is_near(sent.spot, spot) {
+        loop_of(
+            alloc,
+            to,
+            y_of(sent.spot.level),
+            y_of(spot.level),
+            spot.place,
+        )
     } else {
-        push_straight(text, from, start, to, end)
+        format!(in alloc; "L")
     }
 }
 
-fn push_point(text: &mut String, kind: Kind) -> Result<(), AllocError>
-    ensures { OnOk result (string_bytes text.new ≡ string_bytes text.old ++ point_of kind) }
-{
-    text.push_str(point_of(kind))
+fn title_of(alloc: Global, sent: &SentMessage, way: Way) -> Result<String, AllocError> {
+    let number = sent.number;
+    let kind = sent.kind.name();
+    let from = sent.from;
+    let server = way.server;
+    let fate = fate_of(way.is_lost);
+    format!(in alloc; "message {number}: {kind} from {from} to {server}, {fate}")
 }
 
-// Ends the path of a heard message with the arrow's point.
-fn push_heard_end(text: &mut String, servers: u32, kind: Kind, inst: u32) -> Result<(), AllocError>
-    ensures { OnOk result (string_bytes text.new
-        ≡ string_bytes text.old ++ heard_end servers kind inst) }
+fn arrow_of(servers: u32, sent: &SentMessage, way: Way, spot: Spot) -> Arrow
+    ensures { result ≡ arrow_of servers way spot sent.now }
 {
-    push_fixed(text, "' marker-end='url(#")?;
-    push_point(text, kind)?;
-    push_owner(text, servers, inst)?;
-    push_fixed(text, ")'")
+    Arrow {
+        event: spot.place,
+        message: sent.number,
+        is_lost: way.is_lost,
+        owner: owner_of(servers, sent.inst),
+        tail: tail_of(servers, sent, way, spot),
+        tip: tip_of(servers, sent, way, spot),
+    }
 }
 
-// Ends the path. Adds the arrow's point, except for a lost message.
-fn push_end(
+fn push_title(
+    alloc: Global,
     text: &mut String,
-    servers: u32,
     sent: &SentMessage,
-    is_lost: bool,
+    way: Way,
 ) -> Result<(), AllocError>
-    ensures { OnOk result (string_bytes text.new
-        ≡ string_bytes text.old ++ way_end servers sent.now is_lost) }
+    ensures { OnOk result (Keeps (string_bytes text.old) (string_bytes text.new)) }
 {
-    if is_lost {
-        push_fixed(text, "'")
-    } else {
-        push_heard_end(text, servers, sent.kind, sent.inst)
-    }
+    let title = title_of(alloc, sent, way)?;
+    push_element(text, Tag::Title, "", title.as_str())
 }
 
-fn push_way_title(text: &mut String, sent: &SentMessage, way: Way) -> Result<(), AllocError>
-    ensures { OnOk result (string_bytes text.new
-        ≡ string_bytes text.old ++ way_title sent.now way) }
-{
-    push_between(text, "><title>message ", sent.number as usize, ": ")?;
-    push_kind(text, sent.kind)?;
-    push_between(text, " from ", sent.from as usize, " to ")?;
-    push_number(text, way.server as usize)?;
-    push_fixed(text, ", ")?;
-    push_fate(text, way.is_lost)?;
-    push_fixed(text, "</title></path>\n")
-}
-
-fn push_arrow(
+// Adds the start tag of an arrow.
+fn push_start(
+    alloc: Global,
     text: &mut String,
     servers: u32,
     sent: &SentMessage,
     way: Way,
     spot: Spot,
 ) -> Result<(), AllocError>
-    ensures { OnOk result (string_bytes text.new
-        ≡ string_bytes text.old ++ arrow_text servers sent.now way spot) }
+    ensures { OnOk result (Adds (codes "path" ∷ []) (of_arrow (arrow_of servers way spot sent.now) ∷ [])
+        (string_bytes text.old) (string_bytes text.new)) }
 {
-    push_fixed(text, "<path class='way ")?;
-    push_fate(text, way.is_lost)?;
-    push_fixed(text, " ")?;
-    push_kind(text, sent.kind)?;
-    push_owner_between(text, " s", servers, sent.inst, "' data-e='")?;
-    push_number(text, spot.place as usize)?;
-    push_between(text, "' data-m='", sent.number as usize, "' d='")?;
-    push_path(text, servers, sent, way.server, spot)?;
-    push_end(text, servers, sent, way.is_lost)?;
-    push_way_title(text, sent, way)
+    let arrow = arrow_of(servers, sent, way, spot);
+    let bend = bend_of(alloc, servers, sent, way, spot)?;
+    push_arrow(
+        text,
+        arrow,
+        sent.kind.name(),
+        bend.as_str(),
+        point_of(sent.kind),
+    )
+}
+
+fn push_arrow_of(
+    alloc: Global,
+    text: &mut String,
+    servers: u32,
+    sent: &SentMessage,
+    way: Way,
+    spot: Spot,
+) -> Result<(), AllocError>
+    ensures { OnOk result (Adds [] (of_arrow (arrow_of servers way spot sent.now) ∷ []) (string_bytes text.old) (string_bytes text.new)) }
+{
+    push_start(alloc, text, servers, sent, way, spot)?;
+    push_title(alloc, text, sent, way)?;
+    push_end(text, "path")?;
+    push_words(text, "\n")?;
+    Ok(())
 }
 
 /// Adds the arrow of a delivery or a loss. Adds no text for any other line, or if the event is not drawn.
 pub(crate) fn push_way(
+    alloc: Global,
     text: &mut String,
     servers: u32,
     sents: &[SentMessage],
     shape: &Shape,
 ) -> Result<(), AllocError>
-    ensures { OnOk result (string_bytes text.new
-        ≡ string_bytes text.old ++ way_text servers sents.now (outline shape.now)) }
+    ensures { OnOk result (Adds [] (arrow_by servers sents.now (outline shape.now)) (string_bytes text.old) (string_bytes text.new)) }
 {
     if !shape.spot.is_shown {
         return Ok(());
@@ -315,5 +278,5 @@ pub(crate) fn push_way(
     let Some(sent) = heard_by(sents, way) else {
         return Ok(());
     };
-    push_arrow(text, servers, &sent, way, shape.spot)
+    push_arrow_of(alloc, text, servers, &sent, way, shape.spot)
 }

@@ -1,9 +1,9 @@
 //! The words of a line of a trace. One space separates each word from the next.
 
-ghost use Rattle.std.specs.Prelude.{◌≡◌, ◌++◌, ◌==◌, ◌<◌, OnOk, decimal, string_bytes};
+ghost use Rattle.std.specs.Prelude.{◌≡◌, ◌++◌, ◌==◌, ◌<◌, OnOk, string_bytes};
 ghost use Rattle.std.specs.List.{position};
 ghost use Rattle.std.specs.Str.{bytes_eq};
-ghost use Rattle.mencius_draw.specs.Words.{behind_first_word, first_word, fixed_text, is_plain, number, number_between, plain_byte, plain_text, plain_word, rest, word};
+ghost use Rattle.mencius_draw.specs.Words.{behind_first_word, first_word, is_plain, number, plain_byte, plain_text, rest, word};
 
 use std::alloc::AllocError;
 
@@ -74,9 +74,7 @@ pub(crate) fn number(word: &[u8]) -> u32
 }
 
 // Whether a byte is a letter, a digit or a mark that a trace may contain.
-fn is_plain(byte: u8) -> bool
-    ensures { result ≡ is_plain byte }
-{
+fn is_in_trace(byte: u8) -> bool {
     (b'a' <= byte && byte <= b'z')
         || (b'A' <= byte && byte <= b'Z')
         || (b'0' <= byte && byte <= b'9')
@@ -87,9 +85,28 @@ fn is_plain(byte: u8) -> bool
         || byte == b'_'
 }
 
-// Returns a plain byte as it is, and a question mark for any other byte. Bytes that XML reserves are not plain.
+/// Adds bytes of a trace, with a question mark for each byte that no trace contains.
+pub(crate) fn push_shown(text: &mut String, bytes: &[u8]) -> Result<(), AllocError> {
+    for byte in bytes {
+        let is_known = is_in_trace(*byte);
+        text.push(char::from(if is_known { *byte } else { b'?' }))?;
+    }
+    Ok(())
+}
+
+// Whether a byte is a line end, or a printable byte that XML does not reserve.
+fn is_plain(byte: u8) -> bool
+    ensures { result ≡ is_plain byte }
+{
+    (b' ' <= byte
+        && byte <= b'~'
+        && !(byte == b'"' || byte == b'&' || byte == b'\'' || byte == b'<' || byte == b'>'))
+        || byte == b'\n'
+}
+
+/// Returns a plain byte as it is, and a question mark for any other byte.
 #[tactic(auto, unfolding(crate::specs::Words::plain_byte))]
-fn plain_byte(byte: u8) -> char
+pub(crate) fn plain_byte(byte: u8) -> char
     ensures value { result ≡ plain_byte byte }
     ensures ascii { result < 128 }
 {
@@ -100,7 +117,7 @@ fn plain_byte(byte: u8) -> char
     }
 }
 
-/// Adds bytes of a trace to the text of a picture, with a question mark for each byte that is not plain.
+/// Adds bytes to the text of a picture, with a question mark for each byte that is not plain.
 pub(crate) fn push_plain(text: &mut String, bytes: &[u8]) -> Result<(), AllocError>
     ensures { OnOk result (string_bytes text.new ≡ string_bytes text.old ++ plain_text bytes.now) }
 {
@@ -108,49 +125,4 @@ pub(crate) fn push_plain(text: &mut String, bytes: &[u8]) -> Result<(), AllocErr
         text.push(plain_byte(*byte))?;
     }
     Ok(())
-}
-
-/// Adds the word at a place of a line, counted from 0.
-pub(crate) fn push_word(text: &mut String, line: &[u8], place: usize) -> Result<(), AllocError>
-    ensures { OnOk result (string_bytes text.new ≡ string_bytes text.old ++ plain_word place line.now) }
-{
-    push_plain(text, word(line, place))
-}
-
-/// Adds the rest of a line after its first `words` words.
-pub(crate) fn push_rest(text: &mut String, line: &[u8], words: usize) -> Result<(), AllocError>
-    ensures { OnOk result (string_bytes text.new
-        ≡ string_bytes text.old ++ plain_text (rest words line.now)) }
-{
-    push_plain(text, rest(line, words))
-}
-
-/// Adds a fixed text.
-#[tactic(auto, unfolding(crate::specs::Words::fixed_text))]
-pub(crate) fn push_fixed(text: &mut String, part: &str) -> Result<(), AllocError>
-    ensures { OnOk result (string_bytes text.new ≡ string_bytes text.old ++ fixed_text part.now) }
-{
-    text.push_str(part)
-}
-
-/// Adds a number in decimal digits.
-pub(crate) fn push_number(text: &mut String, number: usize) -> Result<(), AllocError>
-    ensures { OnOk result (string_bytes text.new ≡ string_bytes text.old ++ decimal number) }
-{
-    write!(text, "{number}")
-}
-
-/// Adds a number between two fixed texts.
-pub(crate) fn push_between(
-    text: &mut String,
-    before: &str,
-    number: usize,
-    after: &str,
-) -> Result<(), AllocError>
-    ensures { OnOk result (string_bytes text.new
-        ≡ string_bytes text.old ++ number_between before.now number after.now) }
-{
-    push_fixed(text, before)?;
-    push_number(text, number)?;
-    push_fixed(text, after)
 }

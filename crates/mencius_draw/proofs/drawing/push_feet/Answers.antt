@@ -1,10 +1,12 @@
-use Rattle.std.proofs.Common.{map}
-use Rattle.mencius_draw.specs.Layout.{outline}
-use Rattle.mencius_draw.specs.Feet.{foot_text}
-use Rattle.mencius_draw.proofs.Passes.{text_further}
+use Rattle.std.proofs.Common.{[], refl}
+use Rattle.mencius_draw.proofs.Passes.{adds_none}
 use Rattle.mencius_draw.proofs.drawing.push_feet.Goals as goal
 
+pub loop-shape-init : goal.loop-shape-init
+loop-shape-init c = adds_none _ [] refl
+
 pub loop-shape-preserved : goal.loop-shape-preserved
-loop-shape-preserved c =
-    text_further (foot_text c.args.servers c.args.levels (map outline c.args.shapes.now)) outline c.args.shapes.now c.loop-shape.shape-index _ _ _ _ c.loop-shape-test.true
-    c.loop-shape.invariant c.in_ok-push_foot.ensures
+loop-shape-preserved c = record {
+  run = λ tags es h.
+      c.in_ok-push_foot.ensures.run _ _ (c.loop-shape.invariant.run _ _ h);
+}

@@ -1,9 +1,17 @@
 use Rattle.mencius_draw.specs.Layout.{outline}
-use Rattle.mencius_draw.specs.Ways.{way_text}
-use Rattle.mencius_draw.proofs.Passes.{text_further}
+use Rattle.mencius_draw.specs.Picture.{arrow_by}
+use Rattle.mencius_draw.proofs.Passes.{passes_all, passes_none, passes_one}
 use Rattle.mencius_draw.proofs.drawing.push_ways.Goals as goal
+
+pub loop-shape-init : goal.loop-shape-init
+loop-shape-init c = passes_none (arrow_by c.args.servers c.args.sents.now) outline c.args.shapes.now _
 
 pub loop-shape-preserved : goal.loop-shape-preserved
 loop-shape-preserved c =
-    text_further (way_text c.args.servers c.args.sents.now) outline c.args.shapes.now c.loop-shape.shape-index _ _ _ _ c.loop-shape-test.true
+    passes_one (arrow_by c.args.servers c.args.sents.now) outline c.args.shapes.now c.loop-shape.shape-index _ _ _ _ c.loop-shape-test.true
     c.loop-shape.invariant c.in_ok-push_way.ensures
+
+pub returns : goal.returns
+returns c =
+    passes_all (arrow_by c.args.servers c.args.sents.now) outline c.args.shapes.now c.loop-shape.shape-index _ _ c.loop-shape-test.false
+    c.loop-shape.invariant

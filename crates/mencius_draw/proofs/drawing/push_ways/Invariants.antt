@@ -1,10 +1,9 @@
-use Rattle.std.proofs.Common.{◌≡◌, ◌++◌, drop, map, string_bytes}
-use Rattle.std.specs.List.{flat_map}
+use Rattle.std.proofs.Common.{string_bytes}
 use Rattle.mencius_draw.specs.Layout.{outline}
-use Rattle.mencius_draw.specs.Ways.{way_text}
+use Rattle.mencius_draw.specs.Picture.{arrow_by}
+use Rattle.mencius_draw.proofs.Passes.{Passes}
 use Rattle.mencius_draw.proofs.drawing.push_ways.Given as goal
 
 abbrev pub invariant-loop-shape : goal.invariant-loop-shape
 invariant-loop-shape l =
-    string_bytes l.text ++ flat_map (way_text l.servers l.sents) (map outline (drop l.shape-index l.shapes))
-    ≡ string_bytes l.initial.text ++ flat_map (way_text l.servers l.sents) (map outline l.shapes)
+    Passes (arrow_by l.servers l.sents) outline l.shapes l.shape-index (string_bytes l.initial.text) (string_bytes l.text)

@@ -1,17 +1,7 @@
-use Rattle.std.proofs.Common.{string_bytes}
-use Rattle.mencius_draw.proofs.Passes.{last_part, then}
 use Rattle.mencius_draw.proofs.frame.push_head.Goals as goal
 
 pub returns : goal.returns
-returns c =
-    let old = string_bytes c.args.text.now in
-    last_part c.push_fixed-4.result old _ _ _ _ (then old _ _ _ _ (then old _ _ _ _ (then old _ _ _ _ (then old _ _ _ _ (then old _ _ _ _ (then old _ _ _ _ (then old _ _ _ _ (then old _ _ _ _ (c.in_ok-push_svg.ensures)
-    c.in_ok-push_fixed.ensures)
-    c.in_ok-push_scheme.ensures)
-    c.in_ok-push_str.ensures.bytes)
-    c.in_ok-push_colours.ensures)
-    c.in_ok-push_fixed-2.ensures)
-    c.in_ok-push_str-2.ensures.bytes)
-    c.in_ok-push_fixed-3.ensures)
-    c.in_ok-push_size.ensures)
-    c.push_fixed-4.ensures
+returns c = record {
+  run = λ tags es h.
+      c.in_ok-push_paper.ensures.run _ _ (c.in_ok-push_definitions.ensures.run _ _ (c.in_ok-push_words-3.ensures.run _ _ (c.in_ok-push_style.ensures.run _ _ (c.in_ok-push_words-2.ensures.run _ _ (c.in_ok-push_title.ensures.run _ _ (c.in_ok-push_words.ensures.run _ _ h))))));
+}

@@ -1,12 +1,7 @@
-use Rattle.std.proofs.Common.{string_bytes}
-use Rattle.mencius_draw.proofs.Passes.{last_part, then}
 use Rattle.mencius_draw.proofs.frame.push_key.Goals as goal
 
 pub returns : goal.returns
-returns c =
-    let old = string_bytes c.args.text.now in
-    last_part c.push_fixed-3.result old _ _ _ _ (then old _ _ _ _ (then old _ _ _ _ (then old _ _ _ _ (c.in_ok-push_fixed.ensures)
-    c.in_ok-push_y_below.ensures)
-    c.in_ok-push_fixed-2.ensures)
-    c.in_ok-push_str.ensures.bytes)
-    c.push_fixed-3.ensures
+returns c = record {
+  run = λ tags es h.
+      c.in_ok-push_words-2.ensures.run _ _ (c.in_ok-push_end.ensures.run _ _ (c.in_ok-push_entries.ensures.run _ _ (c.in_ok-push_words.ensures.run _ _ (c.in_ok-push_card.ensures.run _ _ h))));
+}

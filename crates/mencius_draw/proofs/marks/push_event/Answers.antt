@@ -1,19 +1,7 @@
-use Rattle.std.proofs.Common.{string_bytes}
-use Rattle.mencius_draw.proofs.Passes.{last_part, then}
 use Rattle.mencius_draw.proofs.marks.push_event.Goals as goal
 
 pub returns : goal.returns
-returns c =
-    let old = string_bytes c.args.text.now in
-    last_part c.push_fixed-3.result old _ _ _ _ (then old _ _ _ _ (then old _ _ _ _ (then old _ _ _ _ (then old _ _ _ _ (then old _ _ _ _ (then old _ _ _ _ (then old _ _ _ _ (then old _ _ _ _ (then old _ _ _ _ (then old _ _ _ _ (c.in_ok-push_between.ensures)
-    c.in_ok-push_act_name.ensures)
-    c.in_ok-push_between-2.ensures)
-    c.in_ok-push_edge.ensures)
-    c.in_ok-push_between-3.ensures)
-    c.in_ok-push_rest.ensures)
-    c.in_ok-push_fixed.ensures)
-    c.in_ok-push_transform_at.ensures)
-    c.in_ok-push_fixed-2.ensures)
-    c.in_ok-push_cause.ensures)
-    c.in_ok-push_mark.ensures)
-    c.push_fixed-3.ensures
+returns c = record {
+  run = λ tags es h.
+      c.in_ok-push_words.ensures.run _ _ (c.in_ok-push_end-3.ensures.run _ _ (c.in_ok-push_end-2.ensures.run _ _ (c.in_ok-push_mark.ensures.run _ _ (c.in_ok-push_cause.ensures.run _ _ (c.in_ok-push_at_lane.ensures.run _ _ (c.in_ok-push_end.ensures.run _ _ (c.in_ok-push_what.ensures.run _ _ (c.in_ok-push_place.ensures.run _ _ (c.in_ok-push_at_edge.ensures.run _ _ (c.in_ok-push_group.ensures.run _ _ h))))))))));
+}
