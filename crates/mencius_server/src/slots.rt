@@ -400,16 +400,21 @@ fn push_lacking(
     let mut inst = interval.first;
     while inst < stop {
         let next = next_owned(members, inst);
-        // A look into the table needs no search, so it comes first.
-        if places[inst as usize].is_some() {
-            inst = next;
-        } else if skipped.has_instance(inst) {
-            inst = learned_intervals.past(inst, next);
-        } else {
+        if is_bare(places, skipped, inst) {
             push_at(places, slots, members, inst);
             inst = next;
+        } else {
+            inst = learned_intervals.past(inst, next);
         }
     }
+}
+
+// Returns whether an instance has no slot and lies in no skipped interval.
+fn is_bare(places: &[Option<usize>], skipped: &SkippedIntervals, inst: u32) -> bool
+    ensures { result ≡ (is_none (slice_index_or places.now inst None) && not (is_in_any skipped.now inst)) }
+{
+    // A look into the table needs no search, so it comes first.
+    place_at(places, inst).is_none() && !skipped.has_instance(inst)
 }
 
 // Stores a new slot at an instance that has none. In that case, `slots` has room for it.

@@ -310,13 +310,6 @@ module _ (a : OwnedInterval) (rs : List Interval) (old : List (Option SlotState)
   pub stored_whole : is_none (stored_at now i) ≡ false → is_lacking a rs old i ≡ false
   stored_whole some = and_right (is_in a i) _ (and_right (not (is_in_any rs i)) _ (ap is_none (sym start) ∙ some))
 
-  pub passed : is_lacking a rs old i ≡ false → IsWalked (new_slot_at a rs) (stored_at old) (stored_at now) next
-      × HasRoomFrom (is_lacking a rs old) a.stop (cap - len) next
-  passed whole = leapt a rs old now i next (omega (arith, ahead)) (λ j l h. ⊎_elim
-      (λ (at : j ≡ i). ap (is_lacking a rs old) at ∙ whole)
-      (λ (off : j ≡ i → ⊥). gap j (omega (arith, l, off)) h)
-      (cases_eq j i)) walked (cap - len) room
-
 -- If a count is 0, every counted place fails its test.
 pub none_of_all : (test : ℕ → Bool) (n : ℕ) → count_by test (numbers_below n) ≤ 0 → (j : ℕ) → j < n → test j ≡ false
 none_of_all test n few j less =

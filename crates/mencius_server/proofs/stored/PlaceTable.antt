@@ -43,6 +43,18 @@ somewhere places slots n e h j = ap is_some (stored_is places slots h.few j) ∙
     go None same = refl
     go (Some place) same = slice_get_some slots place (let l = h.within j place same in omega (arith, l))
 
+-- If the table has a place for an instance, a slot is stored there.
+pub some_there : (places : List (Option ℕ)) (slots : List SlotState) (n : ℕ) → n ≡ length slots → IsSlotTable places n
+    → (j : ℕ) → is_none (get_or places j None) ≡ false
+    → is_none (stored_at (stored_slots places slots) j) ≡ false
+some_there places slots n e h j some =
+    go (stored_at (stored_slots places slots) j) (get_or places j None) (somewhere places slots n e h j) some
+  where
+    go : (s : Option SlotState) (o : Option ℕ) → is_some s ≡ is_some o → is_none o ≡ false → is_none s ≡ false
+    go (Some s) o same some = refl
+    go None None same some = some
+    go None (Some place) same some = absurd (cc)
+
 pub stored_there : (places : List (Option ℕ)) (slots : List SlotState) (n : ℕ) → n ≡ length slots
     → IsSlotTable places n → (j place : ℕ) (s : SlotState)
     → get_or places j None ≡ Some place → s ≡ get_or slots place s → stored_at (stored_slots places slots) j ≡ Some s
