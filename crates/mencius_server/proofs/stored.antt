@@ -1,6 +1,5 @@
 -- The stored slots and the skipped intervals contain the knowledge about each instance.
 pub mod StoredInstances
-pub mod PlaceTable
 pub mod SkipStored
 pub mod SkipFromOutside
 pub mod SkippedSlot

@@ -1,6 +1,6 @@
 -- The requirements and promises of calls on the parts of a server. Each definition combines several of them in one
 -- word.
-use Rattle.std.specs.Prelude.{◌≡◌, ℕ, ◌<◌, ◌≤◌, Bool, true, false, List, Option, Some, is_none, length, min}
+use Rattle.std.specs.Prelude.{◌≡◌, ◌<◌, ◌≤◌, Bool, true, false, List, Option, Some, is_none, length, min}
 use Rattle.std.specs.List.{count_by}
 use Rattle.mencius_base.specs.Limits.{greatest_round, instance_count}
 use Rattle.mencius_base.specs.Members.{Membership, numbers_below, first_owned, instances, owner}
@@ -13,18 +13,12 @@ use Rattle.mencius_server.specs.LearnedIntervals.{AreLearnedIntervals}
 use Rattle.mencius_server.specs.Machine.{next_round_of, suggested_in}
 use Rattle.mencius_server.specs.Notes.{NotesState}
 use Rattle.mencius_server.specs.OwnedIntervals.{IsOwnedInterval}
-use Rattle.mencius_server.specs.SlotTable.{IsSlotTable}
 use Rattle.mencius_server.specs.Slots.{is_covered_slot, is_unlearned, stored_at}
 use Rattle.mencius_server.specs.Tallies.{LearnedWhereSkipped}
 use Rattle.mencius_server.specs.declared.owned_interval.OwnedInterval.{OwnedInterval}
 use Rattle.mencius_server.specs.declared.skipped_intervals.Interval.{Interval}
 
 -- ---- slots
-
--- The table `places` belongs to `slots` stored slots, and its length, which is passed as `count`, is at least `reach`.
-pub record HasPlaces (count : ℕ) (places : List (Option ℕ)) (slots reach : ℕ) : Type 0 where
-  pub wide : reach ≤ count
-  pub placed : IsSlotTable places slots
 
 -- The server may learn no-op at the interval `a`, which is not empty. The interval ends at an instance of its server,
 -- at most at the first one past 4,095. `rs` are skipped intervals of that server, and each slot that is stored in them
@@ -81,13 +75,11 @@ pub record CanBeginOpen (s : InstancesState) (a : OwnedInterval) (p : ServerId) 
       → next_round_of s.members (instance_slot s j) ≤ greatest_round
   pub room : count_by (is_open_in s a) (numbers_below a.stop) ≤ o.room
 
--- Member p may start first phases at the unlearned instances of member q below `reach`. There are at most `most` of
--- them, each has a further round, and the outbox has room for all Prepares.
-pub record CanBeginCovered (s : InstancesState) (p q : ServerId) (reach : Inst) (most : ℕ) (o : OutboxState)
-    : Type 0 where
+-- Member p may start first phases at the unlearned instances of member q below `reach`. Each of them has a further
+-- round, and the outbox has room for all Prepares.
+pub record CanBeginCovered (s : InstancesState) (p q : ServerId) (reach : Inst) (o : OutboxState) : Type 0 where
   pub id : p < s.members.count
   pub suspected : q < s.members.count
-  pub few : count_by (is_covered_stored s q reach) instances ≤ most
   pub rounds : (j : Inst) → j < instance_count → is_covered_stored s q reach j ≡ true
       → next_round_of s.members (instance_slot s j) ≤ greatest_round
   pub room : count_by (is_covered_stored s q reach) instances ≤ o.room

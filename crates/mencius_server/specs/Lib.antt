@@ -7,7 +7,6 @@ pub mod Glances
 pub mod Laws
 pub mod Intervals
 pub mod OwnedIntervals
-pub mod SlotTable
 pub mod LearnedIntervals
 pub mod Slots
 pub mod LentSlots

@@ -51,8 +51,7 @@ impl Server {
         let reach = self.instances.reach(suspected, self.front);
         let tally = self.instances.tally(suspected, reach);
         tally.reserve(out)?;
-        self.instances
-            .begin_all(self.id, suspected, reach, tally.open_count, out)?;
+        self.instances.begin_all(self.id, suspected, reach, out)?;
         Ok(())
     }
 }

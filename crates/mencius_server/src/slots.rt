@@ -8,7 +8,6 @@ ghost use Rattle.mencius_base.specs.declared.message.Value.TheVariants.{Noop};
 ghost use Rattle.mencius_server.specs.Instances.{is_newly_skipped_in, slot_by_skip};
 ghost use Rattle.mencius_server.specs.LentSlots.{LendsSlot};
 ghost use Rattle.mencius_server.specs.Machine.{is_spent};
-ghost use Rattle.mencius_server.specs.SlotTable.{IsSlotTable, stored_slots};
 ghost use Rattle.mencius_server.specs.Intervals.{AreSkippedIntervals, is_between, is_in_any};
 ghost use Rattle.mencius_server.specs.LearnedIntervals.{AreLearnedIntervals};
 ghost use Rattle.mencius_server.specs.Slots.{PassesLearnedIntervals, is_covered_slot, is_lacking, is_learned, is_learned_before, is_unlearned, new_slot_at, prepare_at, prepare_of, slot_after_phase, slot_after_skip_in, stored_after_phase, stored_at};
@@ -16,7 +15,7 @@ ghost use Rattle.mencius_server.specs.OwnedIntervals.{IsOwnedInterval};
 ghost use Rattle.std.specs.Borrow.{sem};
 ghost use Rattle.std.specs.List.{count_by, filter};
 ghost use Rattle.std.specs.Option.{option_map};
-ghost use Rattle.mencius_server.specs.Calls.{CanBeginAll, CanBeginAt, CanSkip, HasPlaces};
+ghost use Rattle.mencius_server.specs.Calls.{CanBeginAll, CanBeginAt, CanSkip};
 ghost use Rattle.mencius_base.specs.Outbox.{IsPushed};
 ghost use Rattle.std.specs.Prelude.{◌≡◌, ℕ, ◌+◌, ◌<◌, ◌≤◌, ◌==◌, ◌++◌, ◌&&◌, ◌||◌, not, false, true, is_none, is_some, length, map, slice_index_or, vec_capacity, vec_len, IfNone, IfOk, IfSome, IsSome, None, OnErr, OnOk, Some, if◌then◌else◌};
 
@@ -31,35 +30,32 @@ use std::marker::Model;
 
 /// The stored slots. Each slot belongs to one instance.
 ///
-/// A table contains the place of each instance's slot, so a call finds a slot without a search and changes it in place.
-/// A call can also reserve room for several slots before it stores the first of them.
+/// A call finds a slot without a search and changes it in place. A call can also make room for several slots before it
+/// stores the first of them.
 #[derive(Drop)]
 pub(crate) struct Slots {
-    // For each instance, the place of its slot, if it has one. Instances past the end of the table have no slot.
-    places: Vec<Option<usize>>,
-    // The slots, in the order of their first use.
-    slots: Vec<Slot>,
+    // For each instance, its slot, if one is stored. Instances past the end of the list have no slot.
+    slots: Vec<Option<Slot>>,
 }
 
 impl Model for Slots {
-    ghost use Rattle.std.specs.Prelude.{List, Option, vec_len};
+    ghost use Rattle.std.specs.Prelude.{List, Option, ◌≤◌, length};
+    ghost use Rattle.mencius_base.specs.Limits.{instance_count};
     ghost use Rattle.coord_paxos.specs.SlotState.{SlotState};
-    ghost use Rattle.mencius_server.specs.SlotTable.{IsSlotTable, stored_slots};
 
     ghost Value = { List (Option SlotState) };
 
-    ghost view = { λ s. stored_slots s.places.items s.slots.items };
+    ghost view = { λ s. s.slots.items };
 
-    ghost invariant = { λ s. IsSlotTable s.places.items (vec_len s.slots) };
+    ghost invariant = { λ s. length s.slots.items ≤ instance_count };
 }
 
 impl Slots {
-    /// Makes a table without slots. This does not allocate.
+    /// Makes a list without slots. This does not allocate.
     pub(crate) fn new(alloc: Global) -> Slots
         ensures { (j : ℕ) → stored_at result j ≡ None }
     {
         Slots {
-            places: Vec::new(alloc),
             slots: Vec::new(alloc),
         }
     }
@@ -67,9 +63,9 @@ impl Slots {
     /// Returns the number of stored slots.
     pub(crate) fn len(&self) -> usize
         ensures count { result ≡ count_by is_some self.now }
-        ensures all { length self.now ≡ instance_count }
+        ensures few { length self.now ≤ instance_count }
     {
-        self.slots.len()
+        self.slots.iter().filter(|slot| slot.is_some()).count()
     }
 
     /// Returns the slot that is stored at an instance, if any.
@@ -78,9 +74,10 @@ impl Slots {
         ensures there { IfSome result (λ s. stored_at self.now inst ≡ Some s.now) }
         ensures none { IfNone result (stored_at self.now inst ≡ None) }
     {
-        match place_at(&self.places, inst) {
-            Some(place) => Some(&self.slots[place]),
-            None => None,
+        if (inst as usize) < self.slots.len() {
+            self.slots[inst as usize].as_ref()
+        } else {
+            None
         }
     }
 
@@ -89,7 +86,7 @@ impl Slots {
         requires { inst < instance_count }
         ensures { result ≡ is_some (stored_at self.now inst) }
     {
-        place_at(&self.places, inst).is_some()
+        self.get(inst).is_some()
     }
 
     /// Returns the slot that is stored at an instance, so that the caller can change it in place.
@@ -99,8 +96,10 @@ impl Slots {
         ensures* lends { sem 𝓛 (LendsSlot self.entry inst result) }
         ensures value { stored_at self.old inst ≡ Some result.now }
     {
-        let place = place_at(&self.places, inst).unwrap_or(0);
-        &mut self.slots[place]
+        match &mut self.slots[inst as usize] {
+            Some(slot) => slot,
+            None => unreachable!(),
+        }
     }
 
     /// Stores a slot at an instance that has none. If the instance was skipped, the slot has learned no-op.
@@ -116,45 +115,28 @@ impl Slots {
             ≡ (if j == inst then Some (slot_by_skip members is_skipped) else stored_at self.old j)) }
         ensures err { OnErr result (self.new ≡ self.old) }
     {
-        self.slots.reserve(1)?;
-        widen(&mut self.places, inst as usize + 1)?;
-        self.places[inst as usize] = Some(self.slots.len());
-        self.slots.push_reserved(blank(members, is_skipped));
+        widen(&mut self.slots, inst as usize + 1)?;
+        self.slots[inst as usize] = Some(blank(members, is_skipped));
         Ok(())
     }
 
     /// Stores a new slot at each instance of an interval that has no slot and lies in no skipped interval.
-    ///
-    /// There are at most `lacking` of these instances.
     pub(crate) fn store_all(
         &mut self,
         interval: OwnedInterval,
         skipped: &SkippedIntervals,
         learned_intervals: &LearnedIntervals,
-        lacking: u32,
     ) -> Result<(), NoMemory>
         requires interval { IsOwnedInterval interval }
         requires small { interval.stop ≤ instance_count }
         requires learned_intervals { AreLearnedIntervals interval.members (is_lacking interval skipped.now self.old)
             learned_intervals.now }
-        requires lacking { count_by (is_lacking interval skipped.now self.old) (numbers_below interval.stop)
-            ≤ lacking }
         ensures ok { OnOk result ((j : ℕ) → stored_at self.new j
             ≡ new_slot_at interval skipped.now j (stored_at self.old j)) }
         ensures err { OnErr result (self.new ≡ self.old) }
     {
-        if lacking == 0 {
-            return Ok(());
-        }
-        self.slots.reserve(lacking as usize)?;
-        widen(&mut self.places, interval.stop as usize)?;
-        push_lacking(
-            &mut self.places,
-            &mut self.slots,
-            interval,
-            skipped,
-            learned_intervals,
-        );
+        widen(&mut self.slots, interval.stop as usize)?;
+        store_lacking(&mut self.slots, interval, skipped, learned_intervals);
         Ok(())
     }
 
@@ -325,9 +307,70 @@ impl Slots {
         ensures within { result ≤ stop }
         ensures none { (j : ℕ) → result ≤ j → j < stop → stored_at self.now j ≡ None }
     {
-        let len = self.places.len().min(INSTANCES as usize) as u32;
+        let len = self.slots.len().min(INSTANCES as usize) as u32;
         len.min(stop)
     }
+}
+
+// Lengthens the list to at least `wanted` instances, and at most to all instances. The new entries have no slot.
+fn widen(slots: &mut Vec<Option<Slot>>, wanted: usize) -> Result<(), NoMemory>
+    requires small { wanted ≤ instance_count }
+    requires few { vec_len slots.old ≤ instance_count }
+    ensures reach { OnOk result (wanted ≤ vec_len slots.new) }
+    ensures few { vec_len slots.new ≤ instance_count }
+    ensures same { (j : ℕ) → stored_at slots.new.items j ≡ stored_at slots.old.items j }
+    ensures err { OnErr result (slots.new.items ≡ slots.old.items) }
+{
+    if slots.len() >= wanted {
+        return Ok(());
+    }
+    // A few more entries than wanted, so that the next instances often need no growth.
+    let wider = (wanted + 63).min(INSTANCES as usize);
+    slots.reserve(wider - slots.len())?;
+    while slots.len() < wider {
+        slots.push_reserved(None);
+    }
+    Ok(())
+}
+
+// Stores a new slot at each instance of an interval that has no slot and lies in no skipped interval. The list reaches
+// the end of the interval.
+fn store_lacking(
+    slots: &mut Vec<Option<Slot>>,
+    interval: OwnedInterval,
+    skipped: &SkippedIntervals,
+    learned_intervals: &LearnedIntervals,
+)
+    requires interval { IsOwnedInterval interval }
+    requires small { interval.stop ≤ instance_count }
+    requires wide { interval.stop ≤ vec_len slots.old }
+    requires learned_intervals { AreLearnedIntervals interval.members
+        (is_lacking interval skipped.now slots.old.items) learned_intervals.now }
+    ensures len { vec_len slots.new ≡ vec_len slots.old }
+    ensures stored { (j : ℕ) → stored_at slots.new.items j
+        ≡ new_slot_at interval skipped.now j (stored_at slots.old.items j) }
+{
+    let members = interval.members;
+    let stop = interval.stop;
+    let mut inst = interval.first;
+    while inst < stop {
+        let next = next_owned(members, inst);
+        if is_bare(slots, skipped, inst) {
+            slots[inst as usize] = Some(Slot::new(members));
+            inst = next;
+        } else {
+            inst = learned_intervals.past(inst, next);
+        }
+    }
+}
+
+// Returns whether an instance has no slot and lies in no skipped interval.
+fn is_bare(slots: &[Option<Slot>], skipped: &SkippedIntervals, inst: u32) -> bool
+    requires { inst < length slots.now }
+    ensures { result ≡ (is_none (stored_at slots.now inst) && not (is_in_any skipped.now inst)) }
+{
+    // A look at the list needs no search, so it comes first.
+    slots[inst as usize].is_none() && !skipped.has_instance(inst)
 }
 
 /// Makes a slot for an instance where the server has heard at most a Skip.
@@ -338,104 +381,5 @@ pub(crate) fn blank(members: Members, is_skipped: bool) -> Slot
         Slot::known(members, Value::Noop)
     } else {
         Slot::new(members)
-    }
-}
-
-// Returns the place of the slot at an instance, if a slot is stored there.
-fn place_at(places: &[Option<usize>], inst: u32) -> Option<usize>
-    ensures { result ≡ slice_index_or places.now inst None }
-{
-    if (inst as usize) < places.len() {
-        places[inst as usize]
-    } else {
-        None
-    }
-}
-
-// Lengthens the table to at least `wanted` instances, and at most to all instances. The new entries have no slot.
-fn widen(places: &mut Vec<Option<usize>>, wanted: usize) -> Result<(), NoMemory>
-    requires small { wanted ≤ instance_count }
-    requires few { vec_len places.old ≤ instance_count }
-    ensures reach { OnOk result (wanted ≤ vec_len places.new) }
-    ensures few { vec_len places.new ≤ instance_count }
-    ensures same { (j : ℕ) → slice_index_or places.new.items j None
-        ≡ slice_index_or places.old.items j None }
-    ensures err { OnErr result (places.new.items ≡ places.old.items) }
-{
-    if places.len() >= wanted {
-        return Ok(());
-    }
-    // A few more entries than wanted, so that the next instances often need no growth.
-    let wider = (wanted + 63).min(INSTANCES as usize);
-    places.reserve(wider - places.len())?;
-    while places.len() < wider {
-        places.push_reserved(None);
-    }
-    Ok(())
-}
-
-// Stores a new slot at each instance of an interval that has no slot and lies in no skipped interval. `slots` has room
-// for these slots.
-fn push_lacking(
-    places: &mut Vec<Option<usize>>,
-    slots: &mut Vec<Slot>,
-    interval: OwnedInterval,
-    skipped: &SkippedIntervals,
-    learned_intervals: &LearnedIntervals,
-)
-    requires interval { IsOwnedInterval interval }
-    requires places { HasPlaces (vec_len places.old) places.old.items (vec_len slots.old) interval.stop }
-    requires room { vec_len slots.old
-        + count_by (is_lacking interval skipped.now (stored_slots places.old.items slots.old.items))
-        (numbers_below interval.stop)
-        ≤ vec_capacity slots.old }
-    requires learned_intervals { AreLearnedIntervals interval.members
-        (is_lacking interval skipped.now (stored_slots places.old.items slots.old.items)) learned_intervals.now }
-    ensures placed { IsSlotTable places.new.items (vec_len slots.new) }
-    ensures stored { (j : ℕ) → stored_at (stored_slots places.new.items slots.new.items) j
-        ≡ new_slot_at interval skipped.now j (stored_at (stored_slots places.old.items slots.old.items) j) }
-{
-    let members = interval.members;
-    let stop = interval.stop;
-    let mut inst = interval.first;
-    while inst < stop {
-        let next = next_owned(members, inst);
-        if is_bare(places, skipped, inst) {
-            push_at(places, slots, members, inst);
-            inst = next;
-        } else {
-            inst = learned_intervals.past(inst, next);
-        }
-    }
-}
-
-// Returns whether an instance has no slot and lies in no skipped interval.
-fn is_bare(places: &[Option<usize>], skipped: &SkippedIntervals, inst: u32) -> bool
-    ensures { result ≡ (is_none (slice_index_or places.now inst None) && not (is_in_any skipped.now inst)) }
-{
-    // A look into the table needs no search, so it comes first.
-    place_at(places, inst).is_none() && !skipped.has_instance(inst)
-}
-
-// Stores a new slot at an instance that has none. In that case, `slots` has room for it.
-fn push_at(places: &mut Vec<Option<usize>>, slots: &mut Vec<Slot>, members: Members, inst: u32)
-    requires places { HasPlaces (vec_len places.old) places.old.items (vec_len slots.old) (inst + 1) }
-    requires room { is_none (stored_at (stored_slots places.old.items slots.old.items) inst) ≡ true
-        → vec_len slots.old < vec_capacity slots.old }
-    ensures places { HasPlaces (vec_len places.new) places.new.items (vec_len slots.new) (vec_len places.old) }
-    ensures stored { (j : ℕ) → stored_at (stored_slots places.new.items slots.new.items) j
-        ≡ (if j == inst && is_none (stored_at (stored_slots places.old.items slots.old.items) inst)
-        then Some (new_slot members)
-        else stored_at (stored_slots places.old.items slots.old.items) j) }
-    ensures room { vec_capacity slots.new ≡ vec_capacity slots.old }
-    ensures more { vec_len slots.new
-        ≡ vec_len slots.old
-        + (if is_none (stored_at (stored_slots places.old.items slots.old.items) inst) then 1 else 0) }
-{
-    let at = inst as usize;
-    let place = slots.len();
-    if places[at].is_none() {
-        places[at] = Some(place);
-        slots.push_reserved(Slot::new(members));
     }
 }

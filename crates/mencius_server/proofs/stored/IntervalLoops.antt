@@ -1,13 +1,13 @@
 -- A loop over the instances of an interval has the right effect at each instance, and changes nothing outside.
-use Rattle.std.proofs.Common.{◌≡◌, ℕ, ◌+◌, ◌-◌, ◌<◌, ◌≤◌, Bool, true, false, cond, ◌&&◌, not, List, [], ◌∷◌, Option, None, Some, eqb, refl, sym, ◌∙◌, ap, arith, ⊎_elim}
+use Rattle.std.proofs.Common.{◌≡◌, ℕ, ◌+◌, ◌<◌, ◌≤◌, Bool, true, false, cond, ◌&&◌, not, List, [], ◌∷◌, Option, None, Some, eqb, length, set, refl, sym, ◌∙◌, ap, arith, ⊎_elim}
 use Rattle.std.specs.Prelude.{is_none}
-use Rattle.std.specs.List.{count_by}
 use Rattle.std.specs.Option.{option_map}
-use Rattle.std.proofs.lemmas.Bool.{cases_Bool, cases_eq, cases_lt, eq-eqb, ne_eqb, and_left, and_right}
+use Rattle.std.proofs.lemmas.List.{get_or-set_other}
+use Rattle.std.proofs.lemmas.Grind.{get_or-set_at}
+use Rattle.std.proofs.lemmas.Bool.{cases_eq, cases_lt, eq-eqb, ne_eqb, and_left, and_right}
 use Rattle.mencius_base.specs.declared.message.Value.TheVariants.{Noop}
 use Rattle.mencius_base.specs.Limits.{instance_count}
-use Rattle.mencius_base.specs.Members.{numbers_below, owner}
-use Rattle.mencius_model.proofs.trace.NumberLists.{count_by-below_le, count_by-below_more}
+use Rattle.mencius_base.specs.Members.{owner}
 use Rattle.coord_paxos.specs.SlotState.{SlotState}
 use Rattle.coord_paxos.specs.Slot.{after_learn}
 use Rattle.coord_paxos.specs.Fresh.{new_slot}
@@ -15,8 +15,7 @@ use Rattle.mencius_server.specs.declared.skipped_intervals.Interval.{Interval}
 use Rattle.mencius_server.specs.declared.owned_interval.OwnedInterval.{OwnedInterval}
 use Rattle.mencius_server.specs.Intervals.{is_in_any}
 use Rattle.mencius_server.specs.Slots.{is_covered_slot, is_in, is_lacking, is_learned, is_learned_before, is_unlearned, new_slot_at, prepare_at, prepare_of, slot_after_phase, slot_after_skip_in, stored_after_phase, stored_at}
-use Rattle.mencius_server.proofs.suspicions.FirstPhases.{HasRoomFrom, room_here, room_more}
-use Rattle.mencius_server.proofs.stored.InstanceGaps.{room_gap, skipped_here, unowned, unskipped_before, unskipped_other, unskipped_past}
+use Rattle.mencius_server.proofs.stored.InstanceGaps.{skipped_here, unowned, unskipped_before, unskipped_other, unskipped_past}
 use Rattle.mencius_server.proofs.stored.SkippedSlot.{after_skip_at, after_skip_kept}
 
 -- ---- the instances of an interval
@@ -232,93 +231,36 @@ pub lacking_covered : (a : OwnedInterval) (rs : List Interval) (ss : List (Optio
     → is_lacking a rs ss j ≡ false
 lacking_covered a rs ss j e = rw e (and_right (is_in a j) _ refl)
 
--- A choice by a test stays the same if another test that holds is added.
-pub made_yes : {X : Type 0} (a d : Bool) (x y : X) → d ≡ true → cond a x y ≡ cond (a && d) x y
-made_yes true d x y e = rw e refl
-made_yes false d x y e = refl
-
-pub made_no : {X : Type 0} (a d : Bool) (x y : X) → d ≡ false → y ≡ cond (a && d) x y
-made_no true d x y e = rw e refl
-made_no false d x y e = refl
-
 -- The loop may pass over instances that lack no slot.
 pub leapt : (a : OwnedInterval) (rs : List Interval) (old now : List (Option SlotState)) (i next : ℕ) → i ≤ next
     → ((j : ℕ) → i ≤ j → j < next → is_lacking a rs old j ≡ false)
     → IsWalked (new_slot_at a rs) (stored_at old) (stored_at now) i
-    → (room : ℕ) → HasRoomFrom (is_lacking a rs old) a.stop room i
     → IsWalked (new_slot_at a rs) (stored_at old) (stored_at now) next
-    × HasRoomFrom (is_lacking a rs old) a.stop room next
-leapt a rs old now i next ahead none walked room has = (
-  walked_on (new_slot_at a rs) (stored_at old) (stored_at now) i next ahead
-      (λ j l h. new_slot_none a rs old j (none j l h)) walked,
-  room_gap (is_lacking a rs old) a.stop room i next ahead none has,
-)
+leapt a rs old now i next ahead none walked =
+    walked_on (new_slot_at a rs) (stored_at old) (stored_at now) i next ahead
+    (λ j l h. new_slot_none a rs old j (none j l h)) walked
 
-module _ (a : OwnedInterval) (rs : List Interval) (old : List (Option SlotState)) (now : List (Option SlotState))
-    (i next : ℕ)
-    (own : owner a.members i ≡ a.server) (low : a.first ≤ i) (high : i < a.stop) (ahead : i + 1 ≤ next)
-    (least : (j : ℕ) → i + 1 ≤ j → owner a.members j ≡ owner a.members i → next ≤ j)
-    (walked : IsWalked (new_slot_at a rs) (stored_at old) (stored_at now) i) (cap len : ℕ)
-    (room : HasRoomFrom (is_lacking a rs old) a.stop (cap - len) i) where
-  start : stored_at now i ≡ stored_at old i
-  start = walked.rest i (omega arith)
-
-  between : (j : ℕ) → i + 1 ≤ j → j < next → new_slot_at a rs j (stored_at old j) ≡ stored_at old j
-  between j l h = new_slot_out a rs j (stored_at old j) (out_between a i next own least j l h)
-
-  gap : (j : ℕ) → i + 1 ≤ j → j < next → is_lacking a rs old j ≡ false
-  gap j l h = lacking_out a rs old j (out_between a i next own least j l h)
-
-  module _ (clear : is_in_any rs i ≡ false) where
-    lacks : is_lacking a rs old i ≡ is_none (stored_at now i)
-    lacks = lacking_in a rs old i (in_here a i own low high) clear ∙ ap is_none (sym start)
-
-    pub filled_room : is_none (stored_at now i) ≡ true → len < cap
-    filled_room none = let some = room_here (is_lacking a rs old) a.stop (cap - len) i high (lacks ∙ none) room in
-        omega (arith, some)
-
-    filled_more : (more : ℕ) → more ≡ len + cond (is_none (stored_at now i)) 1 0
-        → HasRoomFrom (is_lacking a rs old) a.stop (cap - more) next
-    filled_more more is = room_gap (is_lacking a rs old) a.stop (cap - more) (i + 1) next ahead gap
-        (room_more (is_lacking a rs old) a.stop (cap - len) (cap - more) i (go (is_none (stored_at now i)) refl) room)
-      where
-        go : (d : Bool) → is_none (stored_at now i) ≡ d → (cap - more) + cond (is_lacking a rs old i) 1 0 ≡ cap - len
-        go true e = let fits = filled_room e in let one : more ≡ len + 1 = is
-            ∙ ap (λ d. len + cond d 1 0) e in rw (lacks ∙ e) (omega (arith, fits, one))
-        go false e = let none : more ≡ len + 0 = is
-            ∙ ap (λ d. len + cond d 1 0) e in rw (lacks ∙ e) (omega (arith, none))
-
-    module _ (new : List (Option SlotState))
-        (made : (j : ℕ) → stored_at new j ≡ cond (eqb j i && is_none (stored_at now i)) (Some (new_slot a.members))
-        (stored_at now j)) where
-      filled_walked : IsWalked (new_slot_at a rs) (stored_at old) (stored_at new) next
-      filled_walked = walked_more (new_slot_at a rs) (stored_at old) (stored_at now) (stored_at new) i next ahead
-          between
-          (made i ∙ ap (λ d. cond (d && is_none (stored_at now i)) (Some (new_slot a.members)) (stored_at now i))
-          (eq-eqb i i refl)
-          ∙ new_slot_in a rs i (stored_at now i) (in_here a i own low high) clear)
-          (λ j off. made j ∙ ap (λ d. cond (d && is_none (stored_at now i)) (Some (new_slot a.members))
-          (stored_at now j)) (ne_eqb j i off))
-          walked
-
-      pub filled : (more : ℕ) → more ≡ len + cond (is_none (stored_at now i)) 1 0
-          → IsWalked (new_slot_at a rs) (stored_at old) (stored_at new) next
-          × HasRoomFrom (is_lacking a rs old) a.stop (cap - more) next
-      filled more is = (filled_walked, filled_more more is)
-
+module _ (a : OwnedInterval) (rs : List Interval) (old now : List (Option SlotState)) (i : ℕ)
+    (walked : IsWalked (new_slot_at a rs) (stored_at old) (stored_at now) i) where
   -- An instance with a stored slot lacks none.
   pub stored_whole : is_none (stored_at now i) ≡ false → is_lacking a rs old i ≡ false
-  stored_whole some = and_right (is_in a i) _ (and_right (not (is_in_any rs i)) _ (ap is_none (sym start) ∙ some))
+  stored_whole some =
+      and_right (is_in a i) _
+      (and_right (not (is_in_any rs i)) _ (ap is_none (sym (walked.rest i (omega arith))) ∙ some))
 
--- If a count is 0, every counted place fails its test.
-pub none_of_all : (test : ℕ → Bool) (n : ℕ) → count_by test (numbers_below n) ≤ 0 → (j : ℕ) → j < n → test j ≡ false
-none_of_all test n few j less =
-    ⊎_elim
-    (λ (yes : test j ≡ true).
-    let more : count_by test (numbers_below (j + 1)) ≡ count_by test (numbers_below j) + 1 = count_by-below_more test j
-    ∙ ap (λ (a : Bool). count_by test (numbers_below j) + cond a 1 0) yes in
-    let all : count_by test (numbers_below (j + 1)) ≤ count_by test (numbers_below n) =
-    count_by-below_le test (j + 1) n (omega arith) in
-    absurd (omega (arith, more, all, few)))
-    (λ (no : test j ≡ false). no)
-    (cases_Bool (test j))
+  -- The loop may store a new slot at an instance that lacks one.
+  pub filled : (next : ℕ) → owner a.members i ≡ a.server → a.first ≤ i → i < a.stop → i + 1 ≤ next
+      → ((j : ℕ) → i + 1 ≤ j → owner a.members j ≡ owner a.members i → next ≤ j)
+      → is_in_any rs i ≡ false → is_none (stored_at now i) ≡ true → i < length now
+      → IsWalked (new_slot_at a rs) (stored_at old) (stored_at (set now i (Some (new_slot a.members)))) next
+  filled next own low high ahead least clear none within =
+      walked_more (new_slot_at a rs) (stored_at old) (stored_at now) (stored_at new) i next ahead
+      (λ j l h. new_slot_out a rs j (stored_at old j) (out_between a i next own least j l h))
+      (get_or-set_at now i i (Some (new_slot a.members)) None refl within
+      ∙ sym (ap (λ d. cond d (Some (new_slot a.members)) (stored_at now i)) none)
+      ∙ new_slot_in a rs i (stored_at now i) (in_here a i own low high) clear)
+      (λ j off. get_or-set_other now i j (Some (new_slot a.members)) None off)
+      walked
+    where
+      new : List (Option SlotState)
+      new = set now i (Some (new_slot a.members))

@@ -4,11 +4,11 @@ use Rattle.std.proofs.Common.{◌≡◌, ℕ, zero, suc, ◌<◌, ◌≤◌, Boo
 use Rattle.std.specs.Prelude.{is_none, is_some, nat_le, unwrap_or}
 use Rattle.std.specs.List.{count_by}
 use Rattle.std.proofs.lemmas.List.Sums.{sum_by-cons}
-use Rattle.std.proofs.lemmas.List.{get_or-set_other}
+use Rattle.std.proofs.lemmas.List.{get_or_past, get_or-set_other}
 use Rattle.std.proofs.lemmas.Grind.{get_or-set_at}
 use Rattle.std.proofs.lemmas.Bool.{cases_eq, cases_lt, eq-eqb, ne_eqb}
-use Rattle.mencius_base.specs.Members.{Membership, numbers_below, instances, owner}
-use Rattle.mencius_model.proofs.trace.NumberLists.{get_or-map-instances, instances-below, map-below_by, map-instances_same, map-instances_set}
+use Rattle.mencius_base.specs.Members.{Membership, instances, owner}
+use Rattle.mencius_model.proofs.trace.NumberLists.{get_or-map-instances, length-map-instances, map-instances_same, map-instances_set}
 use Rattle.coord_paxos.specs.SlotState.{SlotState}
 use Rattle.coord_paxos.specs.Fresh.{new_slot}
 use Rattle.coord_paxos.specs.Slot.{after_answer, due_decision, due_proposal, prepare_answer, with_acceptance, with_learned, with_promise, with_proposal}
@@ -22,6 +22,7 @@ use Rattle.mencius_server.specs.declared.change.Change.{Change}
 use Rattle.mencius_server.specs.declared.change.Change.TheVariants.{Prepare, Accept, CountPromise, CountAcceptance, Learn}
 use Rattle.mencius_server.specs.declared.skipped_intervals.Interval.{Interval}
 use Rattle.mencius_base.specs.Limits.{instance_count}
+use Rattle.mencius_server.proofs.intervals.IntervalCounts.{bit}
 
 -- ---- the visible knowledge about an instance
 
@@ -335,16 +336,49 @@ none_there (Some x) a e fails = absurd (cc)
 pub some_there : {A : Type 0} (o : Option A) → is_some o ≡ true → IsSome o
 some_there o e = e
 
+-- Two lists have equally many stored slots if they agree at each place on whether a slot is stored.
+count_alike : (xs ys : List (Option SlotState))
+    → ((j : ℕ) → is_some (get_or xs j None) ≡ is_some (get_or ys j None))
+    → count_by is_some xs ≡ count_by is_some ys
+count_alike [] [] h = refl
+count_alike [] (y ∷ ys) h =
+    let rest = count_alike [] ys (λ j. h (suc j)) in
+    let none = ap bit (sym (h 0)) in
+    omega (arith, rest, none, sum_by-cons (λ (o : Option SlotState). cond (is_some o) 1 0) y ys)
+count_alike (x ∷ xs) [] h =
+    let rest = count_alike xs [] (λ j. h (suc j)) in
+    let none = ap bit (h 0) in
+    omega (arith, rest, none, sum_by-cons (λ (o : Option SlotState). cond (is_some o) 1 0) x xs)
+count_alike (x ∷ xs) (y ∷ ys) h =
+    let rest = count_alike xs ys (λ j. h (suc j)) in
+    let same = ap bit (h 0) in
+    omega (
+      arith,
+      rest,
+      same,
+      sum_by-cons (λ (o : Option SlotState). cond (is_some o) 1 0) x xs,
+      sum_by-cons
+          (λ (o : Option SlotState). cond (is_some o) 1 0) y ys,
+    )
+
 -- The number of stored slots is the number of instances that have a stored slot.
 pub stored_count : (m : Membership) (slots : List (Option SlotState)) (rs : List (List Interval)) (now : InstancesState)
-    → instances_in m slots rs ≡ now → length slots ≡ instance_count
+    → instances_in m slots rs ≡ now → length slots ≤ instance_count
     → count_by is_some slots ≡ count_by (λ a. a) now.is_stored
-stored_count m slots rs now shown all =
-    ap (count_by is_some) (map-below_by (stored_at slots) slots instance_count None all (λ j l. refl))
-    ∙ counts (numbers_below instance_count)
-    ∙ ap (λ xs. count_by (λ a. a) (map (λ j. is_some (stored_at slots j)) xs)) (sym instances-below)
+stored_count m slots rs now shown few =
+    count_alike slots (map (stored_at slots) instances) alike
+    ∙ counts instances
     ∙ ap (λ (s : InstancesState). count_by (λ a. a) s.is_stored) shown
   where
+    alike : (j : ℕ) → is_some (stored_at slots j) ≡ is_some (stored_at (map (stored_at slots) instances) j)
+    alike j = ⊎_elim
+        (λ (small : j < instance_count). ap is_some (sym (get_or-map-instances (stored_at slots) j None small)))
+        (λ (past : instance_count ≤ j).
+        ap is_some (get_or_past slots j None (omega (arith, few, past))
+        ∙ sym (get_or_past (map (stored_at slots) instances) j None
+        (let e = length-map-instances (stored_at slots) in omega (arith, e, past)))))
+        (cases_lt j instance_count)
+
     counts : (xs : List ℕ)
         → count_by is_some (map (stored_at slots) xs) ≡ count_by (λ a. a) (map (λ j. is_some (stored_at slots j)) xs)
     counts [] = refl

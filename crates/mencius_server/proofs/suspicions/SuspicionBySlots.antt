@@ -23,7 +23,6 @@ use Rattle.mencius_server.proofs.intervals.IntervalCounts.{count_same}
 use Rattle.mencius_server.proofs.stored.InstanceGaps.{unskipped_other, unskipped_past}
 use Rattle.mencius_server.proofs.stored.StoredInstances.{instance_there, same_instances, seen, seen_none, seen_some, seen_stored}
 use Rattle.mencius_server.proofs.suspicions.OpenInstances.{open_by_skip, open_same}
-use Rattle.mencius_server.proofs.tallies.CountsBelow.{count_less}
 use Rattle.mencius_server.proofs.tallies.OneTally.{IsAlike, alike_same}
 use Rattle.mencius_server.proofs.suspicions.IntervalLeaps.{intervals_of, intervals_stay}
 use Rattle.mencius_server.proofs.suspicions.SuspicionReach.{clash}
@@ -118,11 +117,6 @@ module _ (m : Membership) (slots : List (Option SlotState)) (rs : List (List Int
               (ap (λ (s : SlotState). is_none s.learned) (seen m slots rs now shown j l) ∙ learned))
           | inr none ↦ none
         ]
-
-    pub lacking_count : count_by (is_lacking a r slots) (numbers_below a.stop) ≤ count_by (is_open_in now a) (numbers_below a.stop)
-    lacking_count =
-        count_less (is_lacking a r slots) (is_open_in now a) a.stop
-        (λ j l. lacking_open j (omega (arith, small)) (stored_at slots j) refl)
 
     module _ (new : List (Option SlotState)) (stored : (j : ℕ)
         → stored_at new j ≡ new_slot_at a r j (stored_at slots j)) where

@@ -67,16 +67,15 @@ impl Instances {
 
     /// Starts a first phase at each unlearned instance of a server below `reach`.
     ///
-    /// There are at most `open_count` of these instances, and `out` has room for their Prepares.
+    /// `out` has room for their Prepares.
     pub(crate) fn begin_all(
         &mut self,
         id: u8,
         suspected: u8,
         reach: u32,
-        open_count: u32,
         out: &mut Outbox,
     ) -> Result<(), NoMemory>
-        requires { CanBeginCovered self.old id suspected reach open_count out.old }
+        requires { CanBeginCovered self.old id suspected reach out.old }
         ensures sent { OnOk result (out.new.messages
             ≡ out.old.messages ++ prepares_stored self.old id suspected reach) }
         ensures after { OnOk result (self.new ≡ instances_after_suspect self.old id suspected reach) }
@@ -85,18 +84,16 @@ impl Instances {
         ensures unsent { OnErr result (out.new ≡ out.old) }
     {
         let interval = self.open_interval(suspected, reach);
-        self.store_open(&interval, open_count)?;
+        self.store_open(&interval)?;
         self.begin_open(&interval, id, out);
         Ok(())
     }
 
-    // Stores slots at the unlearned instances of an interval. There are at most `open_count` of these instances.
-    fn store_open(&mut self, interval: &OwnedInterval, open_count: u32) -> Result<(), NoMemory>
+    // Stores slots at the unlearned instances of an interval.
+    fn store_open(&mut self, interval: &OwnedInterval) -> Result<(), NoMemory>
         requires interval { IsOwnedInterval interval.now }
         requires members { interval.now.members ≡ self.old.members }
         requires small { interval.now.stop ≤ instance_count }
-        requires few { count_by (is_open_in self.old interval.now) (numbers_below interval.now.stop)
-            ≤ open_count }
         ensures ok { OnOk result (self.new ≡ with_open_stored self.old interval.now) }
         ensures err { OnErr result (self.new ≡ self.old) }
     {
@@ -104,7 +101,7 @@ impl Instances {
         let skipped = &self.stored.skipped[server as usize];
         self.stored
             .slots
-            .store_all(*interval, skipped, &self.learned_intervals, open_count)?;
+            .store_all(*interval, skipped, &self.learned_intervals)?;
         Ok(())
     }
 

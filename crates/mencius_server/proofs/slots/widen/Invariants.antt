@@ -1,12 +1,13 @@
-use Rattle.std.proofs.Common.{◌≡◌, ◌-◌, ◌≤◌, ℕ, None, get_or, vec_len, vec_capacity}
+use Rattle.std.proofs.Common.{◌≡◌, ◌-◌, ◌≤◌, ℕ, vec_len, vec_capacity}
+use Rattle.mencius_server.specs.Slots.{stored_at}
 use Rattle.mencius_server.proofs.slots.widen.Given as goal
 
-abbrev pub invariant-loop-places : goal.invariant-loop-places
-invariant-loop-places l = record {
-  within : vec_len l.places ≤ l.wider;
-  room : l.wider ≤ vec_capacity l.places;
-  same : (j : ℕ) → get_or l.places.items j None ≡ get_or l.initial.places.items j None;
+abbrev pub invariant-loop-slots : goal.invariant-loop-slots
+invariant-loop-slots l = record {
+  within : vec_len l.slots ≤ l.wider;
+  room : l.wider ≤ vec_capacity l.slots;
+  same : (j : ℕ) → stored_at l.slots.items j ≡ stored_at l.initial.slots.items j;
 }
 
-abbrev pub decreases-loop-places : goal.decreases-loop-places
-decreases-loop-places l = l.wider - vec_len l.places
+abbrev pub decreases-loop-slots : goal.decreases-loop-slots
+decreases-loop-slots l = l.wider - vec_len l.slots

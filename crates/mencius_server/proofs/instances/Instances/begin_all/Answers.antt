@@ -8,14 +8,6 @@ use Rattle.mencius_server.proofs.suspicions.OpenInstances.{open_same}
 use Rattle.mencius_base.specs.Limits.{greatest_round, instance_count}
 use Rattle.mencius_server.proofs.instances.Instances.begin_all.Goals as goal
 
-pub store_open-requires-clause-few : goal.store_open-requires-clause-few
-store_open-requires-clause-few c =
-    omega (
-      arith,
-      c.requires.few,
-      open_count _ _ _ _ c.open_interval-interval.ensures,
-    )
-
 pub begin_open-requires : goal.begin_open-requires
 begin_open-requires c =
     let interval = c.open_interval-interval.result in

@@ -5,4 +5,4 @@ use Rattle.mencius_server.proofs.instances.Instances.kept.Goals as goal
 pub returns : goal.returns
 returns c =
     c.len-slots.ensures.count
-    ∙ stored_count _ _ _ _ c.self.view_is c.len-slots.ensures.all
+    ∙ stored_count _ _ _ _ c.self.view_is c.len-slots.ensures.few

@@ -1,14 +1,8 @@
-use Rattle.std.proofs.Common.{arith, sym}
-use Rattle.mencius_server.proofs.suspicions.SuspicionBySlots.{lacking_count, lacking_intervals, open_stored_shows, open_stored_slot, open_stored_sound}
+use Rattle.std.proofs.Common.{sym}
+use Rattle.mencius_server.proofs.suspicions.SuspicionBySlots.{lacking_intervals, open_stored_shows, open_stored_slot, open_stored_sound}
 use Rattle.mencius_server.proofs.tallies.OneTally.{alike_same}
 use Rattle.mencius_server.proofs.tallies.InstanceTallies.{counts_kept, unchanged}
 use Rattle.mencius_server.proofs.instances.Instances.store_open.Goals as goal
-
-pub store_all-requires-clause-lacking : goal.store_all-requires-clause-lacking
-store_all-requires-clause-lacking c =
-    let fewer = lacking_count _ _ _ _ _ c.self.view_is c.self.invariant.sound c.args.interval.now c.requires.members
-    c.requires.small _ _ c.requires.interval.member c.index-skipped.ensures in
-    omega (arith, c.requires.few, fewer)
 
 pub store_all-requires-clause-learned_intervals : goal.store_all-requires-clause-learned_intervals
 store_all-requires-clause-learned_intervals c =
