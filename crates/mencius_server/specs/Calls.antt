@@ -7,14 +7,13 @@ use Rattle.mencius_base.specs.Members.{Membership, numbers_below, first_owned, i
 use Rattle.mencius_base.specs.Numbers.{Inst, ServerId, TicketNo}
 use Rattle.mencius_base.specs.Outbox.{OutboxState}
 use Rattle.coord_paxos.specs.SlotState.{SlotState}
-use Rattle.mencius_server.specs.Instances.{InstancesState, IsSorted, has_slot, instance_slot, is_covered_stored, is_open_in}
+use Rattle.mencius_server.specs.Instances.{InstancesState, has_slot, instance_slot, is_covered_stored, is_open_in}
 use Rattle.mencius_server.specs.Intervals.{AreSkippedIntervals, is_in_any}
 use Rattle.mencius_server.specs.LearnedIntervals.{AreLearnedIntervals}
 use Rattle.mencius_server.specs.Machine.{next_round_of, suggested_in}
 use Rattle.mencius_server.specs.Notes.{NotesState}
 use Rattle.mencius_server.specs.OwnedIntervals.{IsOwnedInterval}
 use Rattle.mencius_server.specs.Slots.{is_covered_slot, is_unlearned, stored_at}
-use Rattle.mencius_server.specs.Tallies.{LearnedWhereSkipped}
 use Rattle.mencius_server.specs.declared.owned_interval.OwnedInterval.{OwnedInterval}
 use Rattle.mencius_server.specs.declared.skipped_intervals.Interval.{Interval}
 
@@ -85,11 +84,6 @@ pub record CanBeginCovered (s : InstancesState) (p q : ServerId) (reach : Inst) 
   pub room : count_by (is_covered_stored s q reach) instances ≤ o.room
 
 -- ---- counts and searches
-
--- `rs` has the skipped intervals of each server, and every instance in them is learned.
-pub record AreSkipsLearned (m : Membership) (slots : List (Option SlotState)) (rs : List (List Interval)) : Type 0 where
-  pub sorted : IsSorted m rs
-  pub learned_where_skipped : LearnedWhereSkipped m slots rs
 
 -- Instance i has the same owner as the place `from`. None of this owner's instances from `from` up to, but not
 -- including, i is open. If i is below `stop`, i is open.

@@ -232,7 +232,7 @@ impl Instances {
     ///
     /// If the interval was skipped before, the call only searches the skipped intervals. Otherwise, its time is about
     /// the number of slots that may be stored in the interval. If the server was suspected before, the call also visits
-    /// the server's instances in the interval below the reach of that suspicion, except those that were skipped before.
+    /// the server's instances in the interval below the reach of that suspicion.
     pub(crate) fn skip(&mut self, from: u8, first: u32, stop: u32) -> Result<u32, NoMemory>
         requires member { from < self.old.members.count }
         requires small { first < instance_count }

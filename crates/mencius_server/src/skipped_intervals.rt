@@ -90,23 +90,6 @@ impl SkippedIntervals {
         }
     }
 
-    /// Returns the lowest place at or above `inst` that lies in an interval, or `stop` if that place would be above
-    /// `stop`.
-    pub(crate) fn clear_to(&self, inst: u32, stop: u32) -> u32
-        requires { inst ≤ stop }
-        ensures above { inst ≤ result }
-        ensures within { result ≤ stop }
-        ensures clear { (j : ℕ) → inst ≤ j → j < result → is_in_any self.now j ≡ false }
-        ensures further { inst < stop → is_in_any self.now inst ≡ false → inst < result }
-    {
-        let at = first_past(&self.intervals, inst);
-        if at < self.intervals.len() {
-            self.intervals[at].first.max(inst).min(stop)
-        } else {
-            stop
-        }
-    }
-
     /// Adds an interval and joins it with the intervals that it meets. Returns by how much the total length of the
     /// intervals grows.
     pub(crate) fn add(&mut self, first: u32, stop: u32) -> Result<u32, NoMemory>

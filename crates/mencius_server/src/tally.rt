@@ -3,18 +3,16 @@ ghost use Rattle.mencius_base.specs.Limits.{instance_count, most_servers};
 ghost use Rattle.mencius_base.specs.Members.{owner};
 ghost use Rattle.mencius_base.specs.Refusal.{IsRefusedFor};
 ghost use Rattle.mencius_server.specs.Changes.{IsSaid, slot_after_change};
-ghost use Rattle.mencius_server.specs.Instances.{instance_slot_in};
+ghost use Rattle.mencius_server.specs.Instances.{IsSorted, instance_slot_in};
 ghost use Rattle.mencius_server.specs.Machine.{is_spent};
-ghost use Rattle.mencius_server.specs.Slots.{slot_after_skip_in, stored_or_new};
+ghost use Rattle.mencius_server.specs.Slots.{slot_after_skip_in};
 ghost use Rattle.mencius_server.specs.Tallies.{HasCounted, IsTally, IsTallyFrom, no_tally, tally_after, tally_cause, tally_difference, tally_of, tally_sum, with_counted, without_counted};
 ghost use Rattle.mencius_server.specs.declared.tally.Tally.{Tally};
-ghost use Rattle.mencius_server.specs.Calls.{AreSkipsLearned};
-ghost use Rattle.std.specs.Prelude.{◌≡◌, ℕ, ◌+◌, ◌<◌, ◌≤◌, ◌==◌, ◌⊎◌, OnOk, false, if◌then◌else◌};
+ghost use Rattle.std.specs.Prelude.{◌≡◌, ℕ, ◌+◌, ◌<◌, ◌≤◌, ◌==◌, ◌⊎◌, OnOk, false, true, if◌then◌else◌};
 
 use crate::change::Change;
 use crate::owned_interval::{OwnedInterval, next_owned};
 use crate::revocation::next_round_of;
-use crate::slots::Slots;
 use crate::stored_instances::StoredInstances;
 use coord_paxos::Slot;
 use mencius_base::{GREATEST_ROUND, MOST_SERVERS, Members, Outbox, Refusal};
@@ -50,18 +48,6 @@ impl Tally {
             stop: self.stop,
             open_count: self.open_count + u32::from(is_open),
             spent_count: self.spent_count + u32::from(is_open && is_spent(members, slot)),
-        }
-    }
-
-    /// Adds an instance that has no slot and was not skipped.
-    pub(crate) fn with_bare(self) -> Tally
-        requires { self.open_count ≤ instance_count }
-        ensures { result ≡ record self { open_count = self.open_count + 1 } }
-    {
-        Tally {
-            stop: self.stop,
-            open_count: self.open_count + 1,
-            spent_count: self.spent_count,
         }
     }
 
@@ -193,6 +179,19 @@ impl Tallies {
         self.reach = self.reach.max(tally.stop);
     }
 
+    /// Forgets the tally of a server if `is_changed` says that many of its instances may have changed. The next suspicion
+    /// of that server counts them again.
+    pub(crate) fn forget_changed(&mut self, server: u8, is_changed: bool)
+        requires { server < most_servers }
+        ensures forgotten { is_changed ≡ true → tally_of self.new server ≡ no_tally }
+        ensures kept { is_changed ≡ false → tally_of self.new server ≡ tally_of self.old server }
+        ensures rest { (q : ℕ) → (q ≡ server → ⊥) → tally_of self.new q ≡ tally_of self.old q }
+    {
+        if is_changed {
+            self.put(server, Tally::NOTHING);
+        }
+    }
+
     /// Changes the slot of an instance. If the instance is counted, the call updates its owner's tally.
     pub(crate) fn change(&mut self, members: Members, inst: u32, slot: &mut Slot, change: Change)
         requires said { IsSaid slot.old.members change }
@@ -222,10 +221,8 @@ impl Tallies {
 
 impl StoredInstances {
     /// Counts a server's instances from `first` up to, but not including, `stop`.
-    ///
-    /// The count jumps over the skipped intervals, and visits all other instances of the server one by one.
     pub(crate) fn tally_from(&self, server: u8, first: u32, stop: u32) -> Tally
-        requires skips { AreSkipsLearned self.now.members self.now.slots self.now.skipped.items }
+        requires sorted { IsSorted self.now.members self.now.skipped.items }
         requires member { server < self.now.members.count }
         requires ahead { first ≤ stop }
         requires small { stop ≤ instance_count }
@@ -233,18 +230,32 @@ impl StoredInstances {
             (instance_slot_in self.now.members self.now.slots self.now.skipped.items) server first result }
         ensures stop { result.stop ≡ stop }
     {
-        let intervals = &self.skipped[server as usize];
         let mut tally = Tally {
-            stop: first,
+            stop,
             open_count: 0,
             spent_count: 0,
         };
-        while tally.stop < stop {
-            let past = intervals.past(tally.stop).min(stop);
-            let end = intervals.clear_to(past, stop);
-            tally = tally.plus(tally_slots(&self.slots, self.members, server, past, end));
+        let mut inst = self.members.first_owned(server, first);
+        while inst < stop {
+            tally = self.tally_with(inst, tally);
+            inst = next_owned(self.members, inst);
         }
         tally
+    }
+
+    // Adds one instance to a tally.
+    fn tally_with(&self, inst: u32, tally: Tally) -> Tally
+        requires sorted { IsSorted self.now.members self.now.skipped.items }
+        requires small { inst < instance_count }
+        requires few { tally.open_count ≤ instance_count }
+        requires fewer { tally.spent_count ≤ instance_count }
+        ensures { result ≡ with_counted self.now.members tally
+            (instance_slot_in self.now.members self.now.slots self.now.skipped.items inst) }
+    {
+        match self.slots.get(inst) {
+            Some(slot) => tally.with_slot(self.members, slot),
+            None => tally.with_slot(self.members, &self.slot_by_skip(inst)),
+        }
     }
 
     /// Returns the tally of the interval's server once no-op is learned at the instances of the interval.
@@ -252,7 +263,7 @@ impl StoredInstances {
     /// The call visits only the instances of the interval that `tally` counts.
     pub(crate) fn tally_after_skip(&self, interval: &OwnedInterval, tally: Tally) -> Tally
         requires members { interval.now.members ≡ self.now.members }
-        requires skips { AreSkipsLearned self.now.members self.now.slots self.now.skipped.items }
+        requires sorted { IsSorted self.now.members self.now.skipped.items }
         requires member { interval.now.server < self.now.members.count }
         requires counted { IsTally interval.now.members
             (instance_slot_in interval.now.members self.now.slots self.now.skipped.items) interval.now.server tally }
@@ -268,61 +279,5 @@ impl StoredInstances {
         }
         let newly_skipped = self.tally_from(interval.server, first, stop);
         tally.without(newly_skipped)
-    }
-
-    /// Counts a server's instances again if `is_changed` says that many of them may have changed.
-    pub(crate) fn retally_changed(&self, server: u8, is_changed: bool, tallies: &mut Tallies)
-        requires skips { AreSkipsLearned self.now.members self.now.slots self.now.skipped.items }
-        requires member { server < self.now.members.count }
-        requires small { (tally_of tallies.old server).stop ≤ instance_count }
-        requires quiet { is_changed ≡ false
-            → IsTally self.now.members
-            (instance_slot_in self.now.members self.now.slots self.now.skipped.items) server
-            (tally_of tallies.old server) }
-        ensures here { IsTally self.now.members
-            (instance_slot_in self.now.members self.now.slots self.now.skipped.items) server
-            (tally_of tallies.new server) }
-        ensures rest { (q : ℕ) → (q ≡ server → ⊥) → tally_of tallies.new q ≡ tally_of tallies.old q }
-    {
-        if is_changed {
-            let _within_limit = self.members.count(); // proof: at most 7 servers
-            let stop = tallies.get(server).stop;
-            let tally = self.tally_from(server, 0, stop);
-            tallies.put(server, tally);
-        }
-    }
-}
-
-// Counts a server's instances from `first` up to, but not including, `stop`. None of them lies in a skipped interval.
-fn tally_slots(slots: &Slots, members: Members, server: u8, first: u32, stop: u32) -> Tally
-    requires member { server < members.count }
-    requires ahead { first ≤ stop }
-    requires small { stop ≤ instance_count }
-    ensures counted { IsTallyFrom members (stored_or_new members slots.now) server first result }
-    ensures stop { result.stop ≡ stop }
-{
-    let mut tally = Tally {
-        stop,
-        open_count: 0,
-        spent_count: 0,
-    };
-    let mut inst = members.first_owned(server, first);
-    while inst < stop {
-        tally = tally_slot(slots, members, inst, tally);
-        inst = next_owned(members, inst);
-    }
-    tally
-}
-
-// Adds one instance that lies in no skipped interval.
-fn tally_slot(slots: &Slots, members: Members, inst: u32, tally: Tally) -> Tally
-    requires small { inst < instance_count }
-    requires few { tally.open_count ≤ instance_count }
-    requires fewer { tally.spent_count ≤ instance_count }
-    ensures { result ≡ with_counted members tally (stored_or_new members slots.now inst) }
-{
-    match slots.get(inst) {
-        Some(slot) => tally.with_slot(members, slot),
-        None => tally.with_bare(),
     }
 }

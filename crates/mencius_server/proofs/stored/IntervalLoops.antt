@@ -218,10 +218,6 @@ pub new_slot_in : (a : OwnedInterval) (rs : List Interval) (j : ℕ) (o : Option
 new_slot_in a rs j None e fails = rw (e, fails) refl
 new_slot_in a rs j (Some s) e fails = refl
 
-pub lacking_in : (a : OwnedInterval) (rs : List Interval) (ss : List (Option SlotState)) (j : ℕ) → is_in a j ≡ true
-    → is_in_any rs j ≡ false → is_lacking a rs ss j ≡ is_none (stored_at ss j)
-lacking_in a rs ss j e fails = rw (e, fails) refl
-
 pub lacking_out : (a : OwnedInterval) (rs : List Interval) (ss : List (Option SlotState)) (j : ℕ) → is_in a j ≡ false
     → is_lacking a rs ss j ≡ false
 lacking_out a rs ss j e = and_left _ _ e

@@ -2,7 +2,7 @@
 use Rattle.std.proofs.Common.{◌≡◌, ℕ, zero, suc, ◌+◌, ◌-◌, ◌<◌, ◌≤◌, Bool, true, false, refl, sym, ◌∙◌, ap, arith, inl, inr, ⊎_elim}
 use Rattle.std.specs.Prelude.{nat_lt}
 use Rattle.std.specs.List.{count_by, list_any}
-use Rattle.std.proofs.lemmas.Bool.{cases_Bool, cases_eq, cases_lt, le-ltb, lt-ltb}
+use Rattle.std.proofs.lemmas.Bool.{cases_Bool, cases_eq, le-ltb, lt-ltb}
 use Rattle.mencius_base.specs.Members.{numbers_below, instances}
 use Rattle.mencius_model.proofs.trace.NumberLists.{any-instances, any-instances_found, count_by-below_le, count_by-below_more, count_by-below_none, count_by-below_zero, instances-below}
 use Rattle.mencius_server.proofs.intervals.IntervalCounts.{bit, count_same}
@@ -74,22 +74,6 @@ any_counted f = elim (cases_Bool (list_any f instances)) [
       | inl passes ↦ let no : true ≡ false = sym (any-instances f j small passes) ∙ none in absurd (cc)
       | inr fails ↦ fails
     ]
-
--- If two tests agree between two places, their counts grow by the same number between them.
-pub count_between : (f g : ℕ → Bool) (a n : ℕ) → a ≤ n → ((j : ℕ) → a ≤ j → j < n → f j ≡ g j)
-    → count_by f (numbers_below n) + count_by g (numbers_below a) ≡ count_by g (numbers_below n) + count_by f (numbers_below a)
-count_between f g a zero h same = let e : a ≡ 0 = omega arith in rw e (omega arith)
-count_between f g a (suc n) h same =
-    let next : suc n ≡ n + 1 = omega arith in
-    ⊎_elim
-    (λ (end : a ≡ suc n). rw end (omega arith))
-    (λ (off : a ≡ suc n → ⊥).
-    let low : a ≤ n = ⊎_elim (λ (l : a < suc n). omega arith) (λ (g : suc n ≤ a). absurd (off (omega arith)))
-    (cases_lt a (suc n)) in
-    let before = count_between f g a n low (λ j from less. same j from (omega arith)) in
-    let here : bit (f n) ≡ bit (g n) = ap bit (same n low (omega arith)) in
-    rw next (omega (arith, count_by-below_more f n, count_by-below_more g n, before, here)))
-    (cases_eq a (suc n))
 
 -- If no place between two places passes the test, the count stays the same.
 pub count_still : (f : ℕ → Bool) (a n : ℕ) → a ≤ n → ((j : ℕ) → a ≤ j → j < n → f j ≡ false)

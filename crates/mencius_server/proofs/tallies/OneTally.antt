@@ -1,15 +1,13 @@
 -- The tally of one server stays right as its instances change and as more of them are counted.
-use Rattle.std.proofs.Common.{◌≡◌, ℕ, ◌+◌, ◌<◌, ◌≤◌, Bool, true, false, cond, ◌&&◌, List, [], Option, None, Some, eqb, get_or, length, min, refl, sym, ◌∙◌, ap, subst, arith, ⊎_elim}
-use Rattle.std.specs.Prelude.{is_none, unwrap_or}
+use Rattle.std.proofs.Common.{◌≡◌, ℕ, ◌+◌, ◌<◌, ◌≤◌, Bool, false, cond, ◌&&◌, List, Option, None, Some, eqb, refl, sym, ◌∙◌, ap, subst, arith, ⊎_elim}
+use Rattle.std.specs.Prelude.{is_none}
 use Rattle.std.specs.List.{count_by}
 use Rattle.std.proofs.lemmas.Bool.{and_left, and_right, cases_eq, cases_lt, eq-eqb, le-ltb, lt-ltb, ne_eqb}
-use Rattle.std.proofs.lemmas.List.{get_or_default}
 use Rattle.mencius_base.specs.Members.{Membership, numbers_below, owner}
 use Rattle.mencius_model.proofs.trace.NumberLists.{count_by-below_zero}
 use Rattle.coord_paxos.specs.SlotState.{SlotState}
-use Rattle.mencius_server.specs.Instances.{AreSlotsAndSkips, instance_slot_in, is_in_skipped, slot_by_skip}
-use Rattle.mencius_server.specs.Intervals.{is_in_any}
-use Rattle.mencius_server.specs.Slots.{stored_at, stored_or_new}
+use Rattle.mencius_server.specs.Instances.{AreSlotsAndSkips, instance_slot_in}
+use Rattle.mencius_server.specs.Slots.{stored_at}
 use Rattle.mencius_server.specs.Tallies.{HasCounted, IsTally, IsTallyFrom, LearnedWhereSkipped, spent_one, is_spent_of, is_open_of, tally_after, no_tally, open_one, tally_sum, with_counted, without_counted}
 use Rattle.mencius_server.specs.declared.skipped_intervals.Interval.{Interval}
 use Rattle.mencius_server.specs.declared.tally.Tally.{Tally}
@@ -18,7 +16,7 @@ use Rattle.mencius_server.proofs.stored.InstanceGaps.{count_gap, count_to}
 use Rattle.mencius_server.proofs.stored.SkipLoop.{IsCountUpTo, count_more}
 use Rattle.mencius_base.specs.Limits.{instance_count}
 use Rattle.mencius_server.specs.Machine.{is_spent}
-use Rattle.mencius_server.proofs.tallies.CountsBelow.{count_between, count_but, count_few, count_one, count_still}
+use Rattle.mencius_server.proofs.tallies.CountsBelow.{count_but, count_few, count_one, count_still}
 
 -- An instance of another server is not counted.
 pub other_open : (m : Membership) (f : ℕ → SlotState) (q j : ℕ) → (owner m j ≡ q → ⊥) → is_open_of m f q j ≡ false
@@ -212,73 +210,6 @@ module _ (m : Membership) (f : ℕ → SlotState) (q first stop : ℕ) where
         ∙ ap (λ n. count_by (is_spent_of m f q) (numbers_below n)) (sym end);
   }
 
--- ---- counts between two places
-
-module _ (m : Membership) (f : ℕ → SlotState) (q first : ℕ) where
-  -- Before the first instance is counted, both counts are 0 and the tally is right.
-  pub from_start : (d : Tally) → d.stop ≡ first → first ≤ instance_count → d.open_count ≡ 0 → d.spent_count ≡ 0
-      → IsTallyFrom m f q first d
-  from_start d at small no_open no_spent = record {
-    ahead = omega (arith, at);
-    small = omega (arith, at);
-    open_count = rw at (omega (arith, no_open));
-    spent_count = rw at (omega (arith, no_spent));
-  }
-
-  pub from_few : (d : Tally) → IsTallyFrom m f q first d
-      → (d.open_count ≤ instance_count) × (d.spent_count ≤ instance_count)
-  from_few d h = (
-    omega (arith, h.open_count, h.small, count_few (is_open_of m f q) d.stop),
-    omega (arith, h.spent_count, h.small, count_few (is_spent_of m f q) d.stop),
-  )
-
-  -- A tally may be continued by a tally of other slots, after places where nothing more is open. The other slots must
-  -- agree with the server's slots at the counted instances.
-  pub from_more : (g : ℕ → SlotState) (d x : Tally) (past : ℕ) → d.stop ≤ past
-      → ((j : ℕ) → d.stop ≤ j → j < past → owner m j ≡ q → is_none (f j).learned ≡ false)
-      → ((j : ℕ) → past ≤ j → j < x.stop → owner m j ≡ q → f j ≡ g j)
-      → IsTallyFrom m g q past x → IsTallyFrom m f q first d → IsTallyFrom m f q first (tally_sum d x)
-  from_more g d x past ahead closed same further h = record {
-    ahead = omega (arith, h.ahead, further.ahead);
-    small = further.small;
-    open_count = omega (
-      arith,
-      h.open_count,
-      further.open_count,
-      count_still (is_open_of m f q) d.stop past ahead shut,
-      count_between (is_open_of m f q) (is_open_of m g q) past x.stop further.ahead same_open,
-    );
-    spent_count = omega (
-      arith,
-      h.spent_count,
-      further.spent_count,
-      count_still (is_spent_of m f q) d.stop past ahead (λ j low high. and_left _ _ (shut j low high)),
-      count_between (is_spent_of m f q) (is_spent_of m g q) past x.stop further.ahead same_spent,
-    );
-  }
-    where
-      shut : (j : ℕ) → d.stop ≤ j → j < past → is_open_of m f q j ≡ false
-      shut j low high =
-          ⊎_elim (λ (own : owner m j ≡ q). own_open m f q j own ∙ closed j low high own)
-          (λ (other : owner m j ≡ q → ⊥). other_open m f q j other) (cases_eq (owner m j) q)
-
-      same_open : (j : ℕ) → past ≤ j → j < x.stop → is_open_of m f q j ≡ is_open_of m g q j
-      same_open j low high =
-          ⊎_elim
-          (λ (own : owner m j ≡ q).
-          ap (λ (s : SlotState). eqb (owner m j) q && is_none s.learned) (same j low high own))
-          (λ (other : owner m j ≡ q → ⊥). other_open m f q j other ∙ sym (other_open m g q j other))
-          (cases_eq (owner m j) q)
-
-      same_spent : (j : ℕ) → past ≤ j → j < x.stop → is_spent_of m f q j ≡ is_spent_of m g q j
-      same_spent j low high =
-          ⊎_elim
-          (λ (own : owner m j ≡ q).
-          ap (λ (s : SlotState). (eqb (owner m j) q && is_none s.learned) && is_spent m s) (same j low high own))
-          (λ (other : owner m j ≡ q → ⊥). and_left _ _ (other_open m f q j other)
-          ∙ sym (and_left _ _ (other_open m g q j other)))
-          (cases_eq (owner m j) q)
-
 -- Each instance in a skipped interval is learned.
 pub sound_learned : (m : Membership) (slots : List (Option SlotState)) (rs : List (List Interval)) (low : ℕ)
     → AreSlotsAndSkips m slots rs low → LearnedWhereSkipped m slots rs
@@ -287,52 +218,6 @@ sound_learned m slots rs low h j small passed = go (stored_at slots j) refl
     go : (o : Option SlotState) → stored_at slots j ≡ o → is_none (instance_slot_in m slots rs j).learned ≡ false
     go None e = rw (e, passed) refl
     go (Some s) e = rw e (h.learned_where_skipped j s small passed e)
-
--- The count jumps over an interval without open instances, and continues at instances that lie in no skipped interval.
-pub from_gap : (m : Membership) (slots : List (Option SlotState)) (rs : List (List Interval)) (q first : ℕ)
-    (intervals : List Interval) (d x : Tally) (stop covered_to past end : ℕ) → LearnedWhereSkipped m slots rs
-    → q < length rs
-    → intervals ≡ get_or rs q intervals → d.stop ≤ stop → d.stop ≤ covered_to → past ≡ min covered_to stop
-    → x.stop ≡ end
-    → ((j : ℕ) → d.stop ≤ j → j < covered_to → is_in_any intervals j ≡ true)
-    → ((j : ℕ) → past ≤ j → j < end → is_in_any intervals j ≡ false)
-    → IsTallyFrom m (stored_or_new m slots) q past x
-    → IsTallyFrom m (instance_slot_in m slots rs) q first d
-    → IsTallyFrom m (instance_slot_in m slots rs) q first (tally_sum d x)
-from_gap m slots rs q first intervals d x stop covered_to past end learned_where_skipped member theirs within ahead
-    past_is end_is covered
-    clear further h =
-    from_more m (instance_slot_in m slots rs) q first (stored_or_new m slots) d x past (omega (arith, past_is))
-    (λ j low high own. learned_where_skipped j (omega (arith, high, further.ahead, further.small))
-    (passed j own ∙ covered j low (omega (arith, high, past_is))))
-    (λ j low high own. ap (λ bit. unwrap_or (stored_at slots j) (slot_by_skip m bit))
-    (passed j own ∙ clear j low (omega (arith, high, end_is))))
-    further h
-  where
-    passed : (j : ℕ) → owner m j ≡ q → is_in_skipped m rs j ≡ is_in_any intervals j
-    passed j own =
-        ap (λ q. is_in_any (get_or rs q []) j) own
-        ∙ ap (λ xs. is_in_any xs j) (sym (theirs ∙ get_or_default rs q intervals [] member))
-
--- A count from a place on is a tally if no instance below this place is open.
-pub tally_anew : (m : Membership) (f : ℕ → SlotState) (q first : ℕ) (d : Tally)
-    → ((j : ℕ) → j < first → is_none (f j).learned ≡ false) → IsTallyFrom m f q first d → IsTally m f q d
-tally_anew m f q first d closed h = record {
-  small = h.small;
-  open_count = omega (
-    arith,
-    h.open_count,
-    count_by-below_zero (is_open_of m f q),
-    count_still (is_open_of m f q) 0 first (omega arith) (λ j low high. and_right _ _ (closed j high)),
-  );
-  spent_count = omega (
-    arith,
-    h.spent_count,
-    count_by-below_zero (is_spent_of m f q),
-    count_still (is_spent_of m f q) 0 first (omega arith)
-        (λ j low high. and_left _ _ (and_right (eqb (owner m j) q) _ (closed j high))),
-  );
-}
 
 -- The sum of a tally and a later count is a tally if no instance between the two is open.
 pub tally_further : (m : Membership) (f : ℕ → SlotState) (q first : ℕ) (a d : Tally) → a.stop ≤ first

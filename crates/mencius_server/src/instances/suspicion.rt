@@ -44,7 +44,7 @@ impl Instances {
     /// Counts the instances that a suspicion of a server would revoke below `reach`.
     ///
     /// The count continues from the reach of the last call, because each change below that reach was counted when it
-    /// happened. So all calls together look at each instance once, and never at instances in skipped intervals.
+    /// happened. So all calls together look at each instance once.
     pub(crate) fn tally(&mut self, suspected: u8, reach: u32) -> Tally
         requires { suspected < self.old.members.count }
         ensures survey { IsSurvey self.old suspected reach result }
@@ -117,8 +117,8 @@ impl Instances {
             .stored
             .slots
             .begin_all(*interval, id, &mut self.learned_intervals, out);
-        self.stored
-            .retally_changed(server, is_last, &mut self.tallies);
+        let _within_limit = self.stored.members.count(); // proof: at most 7 servers
+        self.tallies.forget_changed(server, is_last);
     }
 
     // Returns the interval of a server's instances below `reach`.

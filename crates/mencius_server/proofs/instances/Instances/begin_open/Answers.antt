@@ -1,8 +1,9 @@
-use Rattle.std.proofs.Common.{◌++◌, ap, arith, rules, sym, ◌∙◌}
+use Rattle.std.proofs.Common.{◌≡◌, ◌++◌, ap, arith, false, rules, subst, sym, true, ◌∙◌, ⊎_elim}
+use Rattle.std.proofs.lemmas.Bool.{cases_Bool}
 use Rattle.mencius_server.specs.Instances.{instance_slot_in}
-use Rattle.mencius_server.specs.Tallies.{tally_of}
+use Rattle.mencius_server.specs.Tallies.{IsTally, tally_of}
 use Rattle.mencius_server.proofs.suspicions.SuspicionBySlots.{phase_count, phase_learned, phase_passes, phase_rounds, phase_intervals, phase_sent, phase_shows, phase_sound, phase_alike, phase_theirs}
-use Rattle.mencius_server.proofs.tallies.OneTally.{alike_same, sound_learned, tally_alike}
+use Rattle.mencius_server.proofs.tallies.OneTally.{alike_same, tally_alike, tally_none}
 use Rattle.mencius_server.proofs.tallies.InstanceTallies.{counts_put, intervals_kept}
 use Rattle.mencius_server.proofs.instances.Instances.begin_open.Goals as goal
 
@@ -21,6 +22,26 @@ begin_all-is_last-requires c =
           c.requires.members c.requires.small c.requires.stored _ c.self.invariant.learned_intervals;
     }
 
+-- The server's tally is forgotten if a first phase was in the last round. Otherwise, its instances count as before.
+tallied : (c : goal.After-forget_changed) → IsTally c.self.inside.stored.members
+    (instance_slot_in c.self.inside.stored.members c.begin_all-is_last.new.self c.self.inside.stored.skipped.items)
+    c.args.interval.now.server (tally_of c.forget_changed.new.self c.args.interval.now.server)
+tallied c =
+    let m = c.self.inside.stored.members in
+    let rs = c.self.inside.stored.skipped.items in
+    let q = c.args.interval.now.server in
+    let now = instance_slot_in m c.begin_all-is_last.new.self rs in
+    ⊎_elim
+    (λ (last : c.begin_all-is_last.result ≡ true). tally_none m now q _ (c.forget_changed.ensures.forgotten last))
+    (λ (still : c.begin_all-is_last.result ≡ false).
+    subst (IsTally m now q) (sym (c.forget_changed.ensures.kept still))
+    (tally_alike m (instance_slot_in m c.self.inside.stored.slots rs) now q (tally_of c.self.inside.tallies q)
+    (λ j small own. phase_alike _ _ _ _ _ c.self.view_is c.self.invariant.sound c.args.interval.now
+    c.requires.members c.requires.small c.requires.stored c.args.id _
+    c.begin_all-is_last.ensures.slots c.requires.rounds (c.begin_all-is_last.ensures.last still) j small)
+    (c.self.invariant.counted q)))
+    (cases_Bool c.begin_all-is_last.result)
+
 pub invariant_of-self : goal.invariant_of-self
 invariant_of-self c =
     intervals_kept _ _ _ _ _ _ _
@@ -36,7 +57,7 @@ invariant_of-self c =
     j small other)))
     (λ j small h. phase_learned _ _ _ _ _ c.self.view_is c.self.invariant.sound c.args.interval.now c.requires.members
     c.requires.small c.requires.stored c.args.id _ c.begin_all-is_last.ensures.slots j small ∙ h)
-    c.retally_changed.ensures.here c.retally_changed.ensures.rest c.self.invariant)
+    (tallied c) c.forget_changed.ensures.rest c.self.invariant)
 
 pub returns-clause-after : goal.returns-clause-after
 returns-clause-after c =
@@ -49,27 +70,3 @@ returns-clause-sent c =
     ∙ ap (λ xs. c.args.out.now.messages ++ xs)
     (phase_sent _ _ _ _ _ c.self.view_is c.self.invariant.sound c.args.interval.now c.requires.members
     c.requires.small c.requires.stored c.args.id)
-
-pub retally_changed-requires-clause-small : goal.retally_changed-requires-clause-small
-retally_changed-requires-clause-small c = (c.self.invariant.counted c.args.interval.now.server).small
-
-pub retally_changed-requires-clause-quiet : goal.retally_changed-requires-clause-quiet
-retally_changed-requires-clause-quiet c = λ none.
-    tally_alike c.self.inside.stored.members
-    (instance_slot_in c.self.inside.stored.members c.self.inside.stored.slots c.self.inside.stored.skipped.items)
-    (instance_slot_in c.self.inside.stored.members c.begin_all-is_last.new.self c.self.inside.stored.skipped.items)
-    c.args.interval.now.server
-    (tally_of c.self.inside.tallies c.args.interval.now.server)
-    (λ j small own. phase_alike _ _ _ _ _ c.self.view_is c.self.invariant.sound c.args.interval.now
-    c.requires.members c.requires.small c.requires.stored c.args.id _
-    c.begin_all-is_last.ensures.slots c.requires.rounds (c.begin_all-is_last.ensures.last none) j small)
-    (c.self.invariant.counted c.args.interval.now.server)
-
-pub retally_changed-requires-clause-skips : goal.retally_changed-requires-clause-skips
-retally_changed-requires-clause-skips c =
-    let sound = phase_sound _ _ _ _ _ c.self.view_is c.self.invariant.sound c.args.interval.now c.requires.members
-    c.requires.small c.requires.stored c.args.id _ c.begin_all-is_last.ensures.slots in
-    record {
-      sorted = sound.sorted;
-      learned_where_skipped = sound_learned _ _ _ _ sound;
-    }

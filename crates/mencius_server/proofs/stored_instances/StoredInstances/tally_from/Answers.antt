@@ -1,53 +1,43 @@
-use Rattle.std.proofs.Common.{refl, sym, subst, ap, arith}
+use Rattle.std.proofs.Common.{arith, refl, ap, ◌∙◌}
 use Rattle.mencius_server.specs.Instances.{instance_slot_in}
-use Rattle.mencius_server.specs.Tallies.{IsTallyFrom}
 use Rattle.mencius_server.specs.declared.tally.Tally.{Tally}
-use Rattle.mencius_server.proofs.tallies.OneTally.{from_few, from_gap, from_start}
+use Rattle.mencius_server.proofs.tallies.OneTally.{tallied_all, tallied_few, tallied_more, tallied_start}
 use Rattle.mencius_server.proofs.stored_instances.StoredInstances.tally_from.Goals as goal
 
-pub loop-tally-init : goal.loop-tally-init
-loop-tally-init c = record {
-  counted = from_start c.args.self.now.members
-      (instance_slot_in c.args.self.now.members c.args.self.now.slots c.args.self.now.skipped.items) c.args.server
-      c.args.first _ refl (omega (arith, c.requires.ahead, c.requires.small)) refl refl;
-  within = c.requires.ahead;
+pub loop-inst-init : goal.loop-inst-init
+loop-inst-init c = record {
+  tallied = tallied_start c.args.self.now.members (instance_slot_in c.args.self.now.members c.args.self.now.slots c.args.self.now.skipped.items) c.args.server c.args.first
+      c.args.stop _ c.first_owned-inst.result refl refl c.requires.ahead c.first_owned-inst.ensures.owned
+      c.first_owned-inst.ensures.above c.first_owned-inst.ensures.least;
+  stop = refl;
 }
 
-pub plus-tally-requires-clause-few : goal.plus-tally-requires-clause-few
-plus-tally-requires-clause-few c =
-    (from_few c.args.self.now.members _ c.args.server c.args.first _
-    (from_gap c.args.self.now.members c.args.self.now.slots c.args.self.now.skipped.items c.args.server c.args.first
-    c.index-intervals.result.now c.loop-tally.tally c.tally_slots.result c.args.stop c.past.result c.min-past.result
-    c.clear_to-end.result c.requires.skips.learned_where_skipped (omega (arith, c.requires.member, c.requires.skips.sorted.count))
-    c.index-intervals.ensures c.loop-tally.invariant.within c.past.ensures.above c.min-past.ensures
-    c.tally_slots.ensures.stop c.past.ensures.covered c.clear_to-end.ensures.clear c.tally_slots.ensures.counted
-    c.loop-tally.invariant.counted)).0
-
-pub plus-tally-requires-clause-fewer : goal.plus-tally-requires-clause-fewer
-plus-tally-requires-clause-fewer c =
-    (from_few c.args.self.now.members _ c.args.server c.args.first _
-    (from_gap c.args.self.now.members c.args.self.now.slots c.args.self.now.skipped.items c.args.server c.args.first
-    c.index-intervals.result.now c.loop-tally.tally c.tally_slots.result c.args.stop c.past.result c.min-past.result
-    c.clear_to-end.result c.requires.skips.learned_where_skipped (omega (arith, c.requires.member, c.requires.skips.sorted.count))
-    c.index-intervals.ensures c.loop-tally.invariant.within c.past.ensures.above c.min-past.ensures
-    c.tally_slots.ensures.stop c.past.ensures.covered c.clear_to-end.ensures.clear c.tally_slots.ensures.counted
-    c.loop-tally.invariant.counted)).1
-
-pub loop-tally-preserved : goal.loop-tally-preserved
-loop-tally-preserved c = record {
-  counted = subst (IsTallyFrom c.args.self.now.members
-      (instance_slot_in c.args.self.now.members c.args.self.now.slots c.args.self.now.skipped.items)
-      c.args.server c.args.first) (sym c.plus-tally.ensures)
-      (from_gap c.args.self.now.members c.args.self.now.slots c.args.self.now.skipped.items c.args.server c.args.first
-      c.index-intervals.result.now c.loop-tally.tally c.tally_slots.result c.args.stop c.past.result c.min-past.result
-      c.clear_to-end.result c.requires.skips.learned_where_skipped (omega (arith, c.requires.member, c.requires.skips.sorted.count))
-      c.index-intervals.ensures c.loop-tally.invariant.within c.past.ensures.above c.min-past.ensures
-      c.tally_slots.ensures.stop c.past.ensures.covered c.clear_to-end.ensures.clear c.tally_slots.ensures.counted
-      c.loop-tally.invariant.counted);
-  within = omega (
-    arith,
-    ap (λ (a : Tally). a.stop) c.plus-tally.ensures,
-    c.tally_slots.ensures.stop,
-    c.clear_to-end.ensures.within,
-  );
+pub loop-inst-preserved : goal.loop-inst-preserved
+loop-inst-preserved c = record {
+  tallied = tallied_more c.args.self.now.members (instance_slot_in c.args.self.now.members c.args.self.now.slots c.args.self.now.skipped.items) c.args.server c.args.first
+      c.args.stop c.loop-inst.tally c.tally_with-tally.result c.loop-inst.inst c.next_owned-inst.result
+      c.loop-inst-test.true c.next_owned-inst.ensures.above c.next_owned-inst.ensures.owned
+      c.next_owned-inst.ensures.least c.tally_with-tally.ensures c.loop-inst.invariant.tallied;
+  stop = ap (λ (a : Tally). a.stop) c.tally_with-tally.ensures ∙ c.loop-inst.invariant.stop;
 }
+
+pub tally_with-tally-requires-clause-few : goal.tally_with-tally-requires-clause-few
+tally_with-tally-requires-clause-few c =
+    (tallied_few c.args.self.now.members (instance_slot_in c.args.self.now.members c.args.self.now.slots c.args.self.now.skipped.items) c.args.server c.args.first
+    c.args.stop c.loop-inst.tally c.loop-inst.inst c.loop-inst-test.true c.requires.small
+    c.loop-inst.invariant.tallied).0
+
+pub tally_with-tally-requires-clause-fewer : goal.tally_with-tally-requires-clause-fewer
+tally_with-tally-requires-clause-fewer c =
+    (tallied_few c.args.self.now.members (instance_slot_in c.args.self.now.members c.args.self.now.slots c.args.self.now.skipped.items) c.args.server c.args.first
+    c.args.stop c.loop-inst.tally c.loop-inst.inst c.loop-inst-test.true c.requires.small
+    c.loop-inst.invariant.tallied).1
+
+pub returns-clause-counted : goal.returns-clause-counted
+returns-clause-counted c =
+    tallied_all c.args.self.now.members (instance_slot_in c.args.self.now.members c.args.self.now.slots c.args.self.now.skipped.items) c.args.server c.args.first
+    c.args.stop c.loop-inst.tally c.loop-inst.inst c.requires.ahead (omega (arith, c.loop-inst-test.false))
+    c.requires.small c.loop-inst.invariant.stop c.loop-inst.invariant.tallied
+
+pub returns-clause-stop : goal.returns-clause-stop
+returns-clause-stop c = c.loop-inst.invariant.stop
