@@ -121,20 +121,15 @@ fn is_spent(members: Members, slot: &Slot) -> bool
 #[derive(Drop)]
 pub(crate) struct Tallies {
     by_server: [Tally; MOST_SERVERS as usize],
-    // No tally reaches past this place, so a change at or above it leaves all tallies as they are.
-    reach: u32,
 }
 
 impl Model for Tallies {
-    ghost use Rattle.std.specs.Prelude.{ℕ, List, ◌≤◌};
-    ghost use Rattle.mencius_server.specs.Tallies.{tally_of};
+    ghost use Rattle.std.specs.Prelude.{List};
     ghost use Rattle.mencius_server.specs.declared.tally.Tally.{Tally};
 
     ghost Value = { List Tally };
 
     ghost view = { λ s. s.by_server };
-
-    ghost invariant = { λ s. (q : ℕ) → (tally_of s.by_server q).stop ≤ s.reach };
 }
 
 impl Tallies {
@@ -144,7 +139,6 @@ impl Tallies {
     {
         Tallies {
             by_server: [Tally::NOTHING; MOST_SERVERS as usize],
-            reach: 0,
         }
     }
 
@@ -176,7 +170,6 @@ impl Tallies {
             ≡ (if q == server then tally else tally_of self.old q) }
     {
         self.by_server[server as usize] = tally;
-        self.reach = self.reach.max(tally.stop);
     }
 
     /// Forgets the tally of a server if `is_changed` says that many of its instances may have changed. The next suspicion
@@ -203,10 +196,6 @@ impl Tallies {
             then tally_after members inst (tally_of self.old q) slot.old slot.new
             else tally_of self.old q) }
     {
-        if inst >= self.reach {
-            change.make(slot);
-            return;
-        }
         let owner = members.owner(inst);
         let tally = self.get(owner);
         if inst >= tally.stop {

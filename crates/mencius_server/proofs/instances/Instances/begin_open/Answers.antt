@@ -23,10 +23,10 @@ begin_all-is_last-requires c =
     }
 
 -- The server's tally is forgotten if a first phase was in the last round. Otherwise, its instances count as before.
-tallied : (c : goal.After-forget_changed) → IsTally c.self.inside.stored.members
+own_tally : (c : goal.After-forget_changed) → IsTally c.self.inside.stored.members
     (instance_slot_in c.self.inside.stored.members c.begin_all-is_last.new.self c.self.inside.stored.skipped.items)
     c.args.interval.now.server (tally_of c.forget_changed.new.self c.args.interval.now.server)
-tallied c =
+own_tally c =
     let m = c.self.inside.stored.members in
     let rs = c.self.inside.stored.skipped.items in
     let q = c.args.interval.now.server in
@@ -57,7 +57,7 @@ invariant_of-self c =
     j small other)))
     (λ j small h. phase_learned _ _ _ _ _ c.self.view_is c.self.invariant.sound c.args.interval.now c.requires.members
     c.requires.small c.requires.stored c.args.id _ c.begin_all-is_last.ensures.slots j small ∙ h)
-    (tallied c) c.forget_changed.ensures.rest c.self.invariant)
+    (own_tally c) c.forget_changed.ensures.rest c.self.invariant)
 
 pub returns-clause-after : goal.returns-clause-after
 returns-clause-after c =
