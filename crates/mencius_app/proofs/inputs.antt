@@ -4,5 +4,3 @@ pub mod TaskEnds
 pub mod ArgumentAnswers
 pub mod PictureFaults
 pub mod CheckedInputs
-pub mod ScenarioKinds
-pub mod HandedFaults

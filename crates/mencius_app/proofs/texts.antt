@@ -1,7 +1,4 @@
 -- Facts about the texts that tasks write.
-pub mod RefusedLines
-pub mod TraceTexts
+pub mod EventTexts
 pub mod SentAcceptances
-pub mod SlotLines
-pub mod LookupLine
 pub mod JoinedTexts

@@ -14,13 +14,12 @@ use Rattle.mencius_app.specs.Ending.{failure_in}
 use Rattle.mencius_app.specs.Failures.{ExplainsAs, ExplainsByFields, ExplainsIn, Explanation, Fails}
 use Rattle.mencius_app.specs.Input.{HasFault, unless_long}
 use Rattle.mencius_app.specs.Judgements.{ExplainsByLine, judge_task}
-use Rattle.mencius_app.specs.Replay.{replay_task}
+use Rattle.mencius_app.specs.Replay.{replay_task, trace_task}
 use Rattle.mencius_app.specs.Run.{run_task}
-use Rattle.mencius_app.specs.Tasks.{AsksLittle, IsCause, Streams, Task, Writes}
-use Rattle.mencius_app.specs.Trace.{trace_task}
+use Rattle.mencius_app.specs.Tasks.{AsksReader, IsCause, Streams, Task, Writes}
 use Rattle.mencius_app.specs.declared.no_task.TheConstants.{NOT_TEXT}
 use Rattle.mencius_app.specs.declared.ending.Ending.{Ending}
-use Rattle.mencius_app.specs.declared.ending.Ending.TheVariants.{Done, Refused, BadCommandLine, BoardFailed}
+use Rattle.mencius_app.specs.declared.ending.Ending.TheVariants.{Done, Refused, BadCommandLine, Failed, BoardFailed}
 use Rattle.mencius_app.specs.declared.call.Begun.{Begun}
 use Rattle.mencius_app.specs.declared.call.Begun.TheVariants.{Ended, Run}
 use Rattle.mencius_app.specs.declared.call.RunOptions.{RunOptions}
@@ -60,12 +59,16 @@ abbrev pub is_run : TaskState → Bool
 is_run (asked_run with_journal with_observations key) = true
 is_run _ = false
 
--- the limits on the use of the reader and the writer by a requested task. For a judgement, only the failed calls are
--- limited, because a log may have any length
+-- the limits on the use of the reader by a requested task. For a judgement, only the failed calls are limited, because a
+-- log may have any length
+abbrev pub AsksReaderAs : TaskState → StreamState → StreamState → Type 0
+AsksReaderAs asked_judge old new = new.failures ≤ old.failures + most_failed_calls
+AsksReaderAs _ old new = AsksReader old new
+
+-- the limits on the use of the reader and the writer by a requested task
 abbrev pub AsksAs : TaskState → Streams → Type 0
-AsksAs asked_judge s = (s.reader_now.failures ≤ s.reader.failures + most_failed_calls)
-    × (s.writer_now.failures ≤ s.writer.failures + most_failed_calls)
-AsksAs _ s = AsksLittle s
+AsksAs task s =
+    AsksReaderAs task s.reader s.reader_now × (s.writer_now.failures ≤ s.writer.failures + most_failed_calls)
 
 -- ---- the arguments
 
@@ -152,13 +155,12 @@ AsksFor arguments task =
     (are_texts arguments ≡ true) × (faults (line_of arguments) ≡ []) × (task_in (line_of arguments) ≡ task)
 
 -- a call that does this task may end with this ending
-pub record EndsTask (task : TaskState) (s : Streams) (ending : Ending) : Type 0 where
-  pub done : ending ≡ Done → DidTask task s false
-  pub refused : ending ≡ Refused → DidTask task s true
-  pub not_refused : ending ≢ BadCommandLine
-  pub failed : IfSome (failure_in ending) (Fails (task_of task) (explanation_of task) s)
-  pub board : ending ≡ BoardFailed → is_run task ≡ true
-  pub asked_little : AsksAs task s
+abbrev pub EndsTask : TaskState → Streams → Ending → Type 0
+EndsTask task s Done = DidTask task s false
+EndsTask task s Refused = DidTask task s true
+EndsTask task s BadCommandLine = ⊥
+EndsTask task s (Failed failure) = Fails (task_of task) (explanation_of task) s failure
+EndsTask task s BoardFailed = is_run task ≡ true
 
 -- the property holds for the ending if the call has ended
 abbrev pub IfEnded : (Ending → Type 0) → Begun → Type 0

@@ -1,10 +1,11 @@
 -- The scenarios that a check accepts, and the line that it prints.
-use Rattle.std.specs.Prelude.{ℕ, ◌≡◌, true, List, ◌∷◌, ◌++◌, codes, decimal, length, Option, Result, Ok, Err}
+use Rattle.std.specs.Prelude.{ℕ, ◌≡◌, true, List, ◌∷◌, ◌++◌, codes, decimal, length, Option, Result}
 use Rattle.std.specs.List.{flat_map}
 use Rattle.mencius_base.specs.CommandState.{CommandState}
 use Rattle.mencius_io.specs.declared.fault.IoFault.{IoFault}
 use Rattle.mencius_input.specs.declared.kind.Kind.{Kind}
 use Rattle.mencius_input.specs.declared.kind.Kind.TheVariants as kind
+use Rattle.mencius_format.specs.ValuesOrFaults.{map_ok}
 use Rattle.mencius_input.specs.Kinds.{kind_in}
 use Rattle.mencius_input.specs.Plan.{plan}
 use Rattle.mencius_input.specs.Scenario.{scenario}
@@ -19,20 +20,10 @@ pub data EitherScenario : Type 0 where
   replay_scenario : (written : Scenario (List Event)) → EitherScenario
   run_scenario : (written : Scenario PlanState) → EitherScenario
 
--- the result of reading a scenario of `replay`, as a result for either kind
-abbrev pub as_replay : Result (Scenario (List Event)) IoFault → Result EitherScenario IoFault
-as_replay (Ok written) = Ok (replay_scenario written)
-as_replay (Err fault) = Err fault
-
--- the result of reading a scenario of `run`, as a result for either kind
-abbrev pub as_run : Result (Scenario PlanState) IoFault → Result EitherScenario IoFault
-as_run (Ok written) = Ok (run_scenario written)
-as_run (Err fault) = Err fault
-
 -- the result of reading bytes as a scenario of this kind
 abbrev pub scenario_of_kind : Kind → List ℕ → Result EitherScenario IoFault
-scenario_of_kind kind.Replay bytes = as_replay (scenario bytes)
-scenario_of_kind kind.Run bytes = as_run (plan bytes)
+scenario_of_kind kind.Replay bytes = map_ok replay_scenario (scenario bytes)
+scenario_of_kind kind.Run bytes = map_ok run_scenario (plan bytes)
 
 -- the result of reading bytes as a scenario of the kind that they are meant as
 abbrev pub either_scenario : List ℕ → Result EitherScenario IoFault

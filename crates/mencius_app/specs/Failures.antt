@@ -1,15 +1,19 @@
--- The words of a failure, and the fault of the input that they explain.
-use Rattle.std.specs.Prelude.{ℕ, ◌≡◌, ◌⊎◌, ◌<◌, List, codes, length, Option, IfSome, Ok, string_bytes}
+-- The words of a failure, the fault of the input that they explain, and the failures of a run.
+use Rattle.std.specs.Prelude.{ℕ, ◌≡◌, ◌⊎◌, ◌<◌, List, codes, length, Option, IfSome, None, Ok, string_bytes}
 use Rattle.mencius_io.specs.Streams.{StreamState, most_bytes}
 use Rattle.mencius_io.specs.declared.failure.Failure.{Failure}
 use Rattle.mencius_io.specs.declared.fault.IoFault.{IoFault}
-use Rattle.mencius_io.specs.declared.fault.IoFault.TheVariants.{BadLimit}
+use Rattle.mencius_io.specs.declared.fault.IoFault.TheVariants.{BadLimit, NoMemory}
 use Rattle.mencius_input.specs.declared.kind.Kind.{Kind}
 use Rattle.mencius_input.specs.declared.kind.Kind.TheVariants.{Replay, Run}
 use Rattle.mencius_input.specs.Kinds.{kind_in}
 use Rattle.mencius_input.specs.Explanations.{Explains, too_long_words}
 use Rattle.mencius_input.specs.Plan.{plan}
 use Rattle.mencius_input.specs.Scenario.{scenario}
+use Rattle.mencius_board.specs.declared.fault.BoardFault.{BoardFault}
+use Rattle.mencius_board.specs.declared.fault.BoardFault.TheVariants as board
+use Rattle.mencius_app.specs.declared.run_failure.RunFailure.{RunFailure}
+use Rattle.mencius_app.specs.declared.run_failure.RunFailure.TheVariants.{Failed, BoardFailed}
 use Rattle.mencius_app.specs.Tasks.{IsCause, IsReadingCause, Streams, Task}
 use Rattle.mencius_input.specs.declared.scenario.Scenario.{Scenario}
 use Rattle.mencius_base.specs.declared.event.Event.{Event}
@@ -66,3 +70,26 @@ pub record FailsReading (IsBadInput : Option (List ℕ) → IoFault → Type 0) 
 pub record Fails (t : Task) (Tells : Explanation) (s : Streams) (failure : Failure) : Type 0 where
   pub cause : IsCause t s failure.fault
   pub words : IsExplained Tells s.reader.bytes failure
+
+-- ---- why a run failed
+
+-- the failure of a run that ran out of memory
+abbrev pub out_of_memory : RunFailure
+out_of_memory = Failed (record { fault = NoMemory; words = None })
+
+-- the failure of a run from a fault of its board. If memory ran out, the failure says so, and otherwise it says that
+-- the board failed
+abbrev pub failure_of_board : BoardFault → RunFailure
+failure_of_board board.NoMemory = out_of_memory
+failure_of_board board.NoReader = BoardFailed
+failure_of_board board.ShowRefused = BoardFailed
+failure_of_board board.NoWorker = BoardFailed
+
+-- the property holds for the failure of a run, unless its board failed
+abbrev pub UnlessBoard : (Failure → Type 0) → RunFailure → Type 0
+UnlessBoard P (Failed failure) = P failure
+UnlessBoard P BoardFailed = Unit {0}
+
+-- the failure is that memory ran out, without words, and not a fault of the input, the reader or the writer
+abbrev pub IsOwn : Failure → Type 0
+IsOwn failure = (failure.fault ≡ NoMemory) × (failure.words ≡ None)

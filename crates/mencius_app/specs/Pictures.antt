@@ -12,7 +12,7 @@ use Rattle.mencius_app.specs.Failures.{ExplainsAs}
 use Rattle.mencius_app.specs.Tasks.{Task}
 use Rattle.mencius_input.specs.Scenario.{scenario}
 use Rattle.mencius_app.specs.Input.{HasFault, unless_long}
-use Rattle.mencius_app.specs.Trace.{IsTraceOf}
+use Rattle.mencius_app.specs.Replay.{IsTraceOf}
 
 -- the number of levels in a picture of the part of a trace that the options name
 abbrev pub levels_in : Options → List ℕ → ℕ

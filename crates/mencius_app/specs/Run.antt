@@ -1,5 +1,5 @@
 -- The text of a run, and the input that it belongs to.
-use Rattle.std.specs.Prelude.{◌≡◌, ℕ, Bool, true, if◌then◌else◌, Ok, List, [], ◌∷◌, ◌++◌, codes, Option, Some, None}
+use Rattle.std.specs.Prelude.{◌≡◌, ℕ, Bool, true, if◌then◌else◌, Ok, List, [], ◌∷◌, ◌++◌, codes, Option, Some, None, option_and_then}
 use Rattle.mencius_model.specs.KeyMap.{value_at}
 use Rattle.mencius_model.specs.Next.{replay}
 use Rattle.mencius_model.specs.Replies.{longest_commands}
@@ -26,19 +26,14 @@ journal_line is_asked x = if is_asked then journal_text x.members x.journal ++ c
 abbrev pub text_at : ClusterState → List ℕ → Option (List ℕ)
 text_at x key = value_at key (longest_commands x.members (trace_of x))
 
--- the line of a lookup, with its key and the text that was found there, if any
-abbrev pub held_line : List ℕ → Option (List ℕ) → List ℕ
-held_line key held = codes "lookup " ++ (key ++ 32 ∷ (former_text held ++ codes "\n"))
+-- the text that the longest history leaves at the key, if there is a key and it leaves one
+abbrev pub found_text : Option (List ℕ) → ClusterState → Option (List ℕ)
+found_text key x = option_and_then (text_at x) key
 
--- the line for the text that was found at the key, or no text without a key
-abbrev pub found_line : Option (List ℕ) → Option (List ℕ) → List ℕ
-found_line None found = []
-found_line (Some key) found = held_line key found
-
--- the line for the text that the longest history leaves at the key, or no text without a key
-abbrev pub lookup_line : Option (List ℕ) → ClusterState → List ℕ
-lookup_line None x = []
-lookup_line (Some key) x = held_line key (text_at x key)
+-- the line of a lookup, with its key and the text that was found there, if any, or no text without a key
+abbrev pub lookup_line : Option (List ℕ) → Option (List ℕ) → List ℕ
+lookup_line None found = []
+lookup_line (Some key) found = codes "lookup " ++ (key ++ 32 ∷ (former_text found ++ codes "\n"))
 
 -- the log of the observations in the trace if it is requested, and otherwise the report
 abbrev pub body_text : Bool → ClusterState → List ℕ
@@ -48,12 +43,7 @@ body_text with_observations x =
 -- the text of a run, with the line of the journal, then the log or the report, and then the line of the lookup
 abbrev pub run_text : Bool → Bool → Option (List ℕ) → ClusterState → List ℕ
 run_text with_journal with_observations key x =
-    journal_line with_journal x ++ (body_text with_observations x ++ lookup_line key x)
-
--- the text that was found at the key, if there is a key, is the text that the longest history leaves there
-abbrev pub IsFound : Option (List ℕ) → ClusterState → Option (List ℕ) → Type 0
-IsFound None x found = Unit {0}
-IsFound (Some key) x found = found ≡ text_at x key
+    journal_line with_journal x ++ (body_text with_observations x ++ lookup_line key (found_text key x))
 
 -- ---- the whole
 

@@ -13,9 +13,8 @@ use Rattle.mencius_model.specs.Instance.{accepted_ballot, vote}
 use Rattle.mencius_model.specs.Outcomes.{outcomes_from, trace_from}
 use Rattle.mencius_trace.specs.Facts.{at_instance, value_text, vote_text}
 use Rattle.mencius_trace.specs.Effects.{glance}
-use Rattle.mencius_app.specs.Replay.{refused_line}
+use Rattle.mencius_app.specs.Replay.{refused_line, text_task}
 use Rattle.mencius_app.specs.Tasks.{Task}
-use Rattle.mencius_app.specs.Trace.{text_task}
 use Rattle.mencius_app.specs.Report.{server_line}
 
 -- the list contains for each instance the greatest ballot that p accepted there, if it accepted any

@@ -1,15 +1,16 @@
 //! A call of the program, from its arguments to its ending.
 
-ghost use Rattle.std.specs.Prelude.{◌≡◌, ◌≢◌, ◌⊎◌, Ok, Err, true, false};
+ghost use Rattle.std.specs.Prelude.{◌≡◌, ◌≢◌, ◌⊎◌, IfErr, IfOk, OnOk};
 ghost use Rattle.mencius_command_line.specs.CommandLine.{bytes_of, task_state};
-ghost use Rattle.mencius_app.specs.Calls.{AsksFor, Complains, IfEnded, IfRun, EndsCall, EndsTask, IsUnread, task_with};
-ghost use Rattle.mencius_app.specs.Tasks.{streams};
+ghost use Rattle.mencius_app.specs.Calls.{AsksAs, AsksFor, AsksReaderAs, Complains, EndsCall, EndsTask, IfEnded, IfRun, IsUnread, explanation_of, is_reporting, task_of, task_with};
+ghost use Rattle.mencius_app.specs.Failures.{FailsReading};
+ghost use Rattle.mencius_app.specs.Tasks.{IsOutput, streams};
 
 use crate::checks::read_check;
 use crate::ending::{Ending, ending_of, ending_of_run};
 use crate::judgements::read_judgement;
 use crate::no_task::{NOT_TEXT, answer_command_line};
-use crate::output::deliver;
+use crate::output::{Output, deliver};
 use crate::pictures::read_picture;
 use crate::replays::read_replay;
 use crate::runs::run_explained;
@@ -17,7 +18,7 @@ use crate::traces::read_trace;
 use crate::turns::read_turns;
 use mencius_board::Open;
 use mencius_command_line::{Task, are_texts, read_arguments};
-use mencius_io::{Sink, Source, write_all};
+use mencius_io::{Failure, Sink, Source, write_all};
 use std::alloc::Global;
 use std::sync::Wait;
 use std::thread::Threads;
@@ -133,31 +134,62 @@ fn begin<R: Source, W: Sink, E: Sink>(
 
 // Does a task, unless it is a run.
 fn begin_task<R: Source, W: Sink>(alloc: Global, task: Task, source: &mut R, sink: &mut W) -> Begun
-    ensures ended { IfEnded (EndsTask (task_state task) (streams (R.state source.old) (R.state source.new)
-        (W.state sink.old) (W.state sink.new))) result }
+    ensures ended { IfEnded (λ ending. EndsTask (task_state task) (streams (R.state source.old)
+        (R.state source.new) (W.state sink.old) (W.state sink.new)) ending
+        × AsksAs (task_state task) (streams (R.state source.old)
+        (R.state source.new) (W.state sink.old) (W.state sink.new))) result }
     ensures no_board { IfEnded (λ ending. ending ≢ Ending.BoardFailed) result }
     ensures run { IfRun (λ options. (task_state task ≡ task_with options)
         × (source.new ≡ source.old) × (sink.new ≡ sink.old)) result }
 {
-    let (made, is_reported) = match task {
-        Task::Replay { is_strict } => (read_replay(alloc, source), is_strict),
-        Task::Trace => (read_trace(alloc, source), false),
-        Task::Draw(options) => (read_picture(alloc, source, &options), false),
-        Task::Check => (read_check(alloc, source), false),
-        Task::Judge => (read_judgement(alloc, source), true),
+    let is_reported = is_reporting(&task);
+    match read_task(alloc, task, source) {
+        Ok(made) => Begun::Ended(ending_of(is_reported, deliver(sink, made))),
+        Err(options) => Begun::Run(options),
+    }
+}
+
+// Returns whether the ending of a task reports a text that is not clean.
+fn is_reporting(task: &Task) -> bool
+    ensures { result ≡ is_reporting (task_state task.now) }
+{
+    match task {
+        Task::Replay { is_strict } => *is_strict,
+        Task::Judge => true,
+        Task::Trace | Task::Draw(_) | Task::Check | Task::Run { .. } => false,
+    }
+}
+
+// Reads the input of a task and makes its text. For a run, it reads nothing and returns the options of the run.
+fn read_task<R: Source>(
+    alloc: Global,
+    task: Task,
+    source: &mut R,
+) -> Result<Result<Output, Failure>, RunOptions>
+    ensures made { IfOk result (λ made.
+        IfOk made (IsOutput (task_of (task_state task)) (R.state source.old).bytes)) }
+    ensures fault { IfOk result (λ made. IfErr made (FailsReading (task_of (task_state task)).IsBadInput
+        (explanation_of (task_state task)) (R.state source.old) (R.state source.new))) }
+    ensures asked { OnOk result (AsksReaderAs (task_state task) (R.state source.old) (R.state source.new)) }
+    ensures run { IfErr result (λ options. (task_state task ≡ task_with options)
+        × (source.new ≡ source.old)) }
+{
+    match task {
+        Task::Replay { .. } => Ok(read_replay(alloc, source)),
+        Task::Trace => Ok(read_trace(alloc, source)),
+        Task::Draw(options) => Ok(read_picture(alloc, source, &options)),
+        Task::Check => Ok(read_check(alloc, source)),
+        Task::Judge => Ok(read_judgement(alloc, source)),
         Task::Run {
             with_journal,
             with_observations,
             key,
-        } => {
-            return Begun::Run(RunOptions {
-                with_journal,
-                with_observations,
-                key,
-            });
-        }
-    };
-    Begun::Ended(ending_of(is_reported, deliver(sink, made)))
+        } => Err(RunOptions {
+            with_journal,
+            with_observations,
+            key,
+        }),
+    }
 }
 
 // Does a run in threads. No other function here waits for threads.
@@ -170,6 +202,8 @@ fn perform_run<R: Source, W: Sink, T: Threads + Wait + Sync>(
 ) -> Ending
     ensures ended { EndsTask (task_with options.now) (streams (R.state source.old) (R.state source.new)
         (W.state sink.old) (W.state sink.new)) result }
+    ensures asked { AsksAs (task_with options.now) (streams (R.state source.old) (R.state source.new)
+        (W.state sink.old) (W.state sink.new)) }
     ensures board { result ≡ Ending.BoardFailed → sink.new ≡ sink.old }
 {
     let key = options.key.as_deref();
@@ -194,6 +228,8 @@ fn perform_run_in_turns<R: Source, W: Sink>(
 ) -> Ending
     ensures ended { EndsTask (task_with options.now) (streams (R.state source.old) (R.state source.new)
         (W.state sink.old) (W.state sink.new)) result }
+    ensures asked { AsksAs (task_with options.now) (streams (R.state source.old) (R.state source.new)
+        (W.state sink.old) (W.state sink.new)) }
     ensures no_board { result ≢ Ending.BoardFailed }
 {
     let key = options.key.as_deref();

@@ -131,6 +131,7 @@ pub(crate) fn write_both<E: Sink>(errors: &mut E, first: &str, second: &str) -> 
 }
 
 // Returns the line of a fault. It does not allocate, because memory may have run out.
+#[tactic(auto, unfolding(core::specs::Fmt::digits))]
 fn line_of_fault(fault: AppFault) -> &'static str
     ensures { result.now ≡ fault_line fault }
 {

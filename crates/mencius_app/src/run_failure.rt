@@ -38,7 +38,7 @@ impl From<IoFault> for RunFailure {
 
 impl From<AllocError> for RunFailure {
     ghost use Rattle.std.specs.Prelude.{◌≡◌};
-    ghost use Rattle.mencius_app.specs.RunFailures.{out_of_memory};
+    ghost use Rattle.mencius_app.specs.Failures.{out_of_memory};
 
     ghost from_gives = { λ _ run. run ≡ out_of_memory };
 
@@ -49,7 +49,7 @@ impl From<AllocError> for RunFailure {
 
 impl From<BoardFault> for RunFailure {
     ghost use Rattle.std.specs.Prelude.{◌≡◌};
-    ghost use Rattle.mencius_app.specs.RunFailures.{failure_of_board};
+    ghost use Rattle.mencius_app.specs.Failures.{failure_of_board};
 
     ghost from_gives = { λ fault run. run ≡ failure_of_board fault };
 

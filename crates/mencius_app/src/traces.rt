@@ -4,9 +4,8 @@ ghost use Rattle.std.specs.Prelude.{◌≡◌, ◌++◌, [], true, string_bytes,
 ghost use Rattle.std.specs.Io.KnownBytes.{IsAtEnd};
 ghost use Rattle.mencius_app.specs.Failures.{ExplainsAs, Fails, FailsReading};
 ghost use Rattle.mencius_app.specs.Input.{HasFault, unless_long};
-ghost use Rattle.mencius_app.specs.Replay.{salt_of_events};
+ghost use Rattle.mencius_app.specs.Replay.{salt_of_events, trace_task};
 ghost use Rattle.mencius_app.specs.Tasks.{AsksLittle, AsksReader, IsOutput, Writes, streams};
-ghost use Rattle.mencius_app.specs.Trace.{trace_task};
 ghost use Rattle.mencius_cluster.specs.Salt.{hasher_with};
 ghost use Rattle.mencius_cluster.specs.State.{trace_of};
 ghost use Rattle.mencius_trace.specs.LastLines.{events_text, trace_text};

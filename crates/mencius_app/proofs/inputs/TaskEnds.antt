@@ -1,18 +1,9 @@
 -- A task writes the text that it made, and a call ends as its task does.
-use Rattle.std.specs.Prelude.{not, OnOk}
-use Rattle.std.proofs.Common.{◌≡◌, ◌≢◌, ◌≤◌, ◌+◌, ◌&&◌, ◌∙◌, arith, inl, inr, ℕ, Bool, true, false, cond, List, [], Option, Some, None, IfSome, IfOk, IfErr, Result, Ok, Err, String, Global, string_bytes, refl, sym, subst, ap}
-use Rattle.std.specs.Io.KnownBytes.{Keeps}
-use Rattle.clap.specs.Words.{Text}
-use Rattle.mencius_io.specs.Streams.{StreamState, TakesAtMost, most_bytes, most_failed_calls}
-use Rattle.mencius_io.specs.declared.failure.Failure.{Failure}
-use Rattle.mencius_io.specs.declared.fault.IoFault.{IoFault}
-use Rattle.mencius_io.specs.declared.fault.IoFault.TheVariants.{WriteFailed}
-use Rattle.mencius_command_line.specs.CommandLine.{TaskState, asked_check, asked_draw, asked_judge, asked_replay, asked_run, asked_trace, faults, line_of, task_in}
-use Rattle.mencius_app.specs.Calls.{AsksAs, AsksFor, DidTask, EndsCall, EndsTask, IfEnded, IfRun, IsUnread, call_task, explanation_of, is_reporting, is_run, task_of}
+use Rattle.mencius_app.proofs.Words.{NoMemory, ReadFailed, BadLimit, BadShape, NotJson, not, OnOk, IsErrAnd, IfSome_then, ◌≡◌, ◌≢◌, ◌+◌, ◌&&◌, ◌∙◌, arith, inl, inr, ℕ, Bool, true, false, cond, List, [], Option, Some, None, IfSome, IfOk, IfErr, Result, Ok, Err, string_bytes, refl, sym, subst, ap, Keeps, Text, StreamState, TakesAtMost, most_bytes, Failure, IoFault, WriteFailed, TaskState, asked_judge, faults, line_of, task_in, ◌⊎◌}
+use Rattle.mencius_app.specs.Calls.{AsksAs, AsksFor, AsksReaderAs, EndsCall, EndsTask, IfEnded, IfRun, IsUnread, call_task, explanation_of, is_reporting, task_of, task_with}
 use Rattle.mencius_app.specs.Ending.{ending_of, ending_of_run, failure_in}
-use Rattle.mencius_app.specs.Failures.{ExplainsIn, Explanation, Fails, FailsReading}
-use Rattle.mencius_app.specs.RunFailures.{UnlessBoard}
-use Rattle.mencius_app.specs.Tasks.{AsksReader, Delivers, IsCause, IsOutput, Streams, Task, Writes, streams}
+use Rattle.mencius_app.specs.Failures.{ExplainsIn, Explanation, Fails, FailsReading, UnlessBoard}
+use Rattle.mencius_app.specs.Tasks.{Delivers, IsCause, IsOutput, Streams, Task, Writes, streams}
 use Rattle.mencius_app.specs.declared.call.Begun.{Begun}
 use Rattle.mencius_app.specs.declared.call.Begun.TheVariants.{Ended, Run}
 use Rattle.mencius_app.specs.declared.call.RunOptions.{RunOptions}
@@ -21,128 +12,89 @@ use Rattle.mencius_app.specs.declared.ending.Ending.TheVariants.{Done, Refused, 
 use Rattle.mencius_app.specs.declared.output.Output.{Output}
 use Rattle.mencius_app.specs.declared.run_failure.RunFailure.{RunFailure}
 use Rattle.mencius_app.specs.declared.run_failure.RunFailure.TheVariants as run
-use Rattle.mencius_app.proofs.inputs.Inputs.{no_write}
+use Rattle.mencius_app.proofs.inputs.Inputs.{at_err, no_other}
+use Rattle.mencius_app.specs.declared.fault.AppFault.{AppFault}
+use Rattle.mencius_app.specs.declared.fault.AppFault.TheVariants as app
+use Rattle.mencius_app.specs.Fault.{app_fault, fault_of_run}
 
 -- ---- writing
 
-keeps : (known : Option (List ℕ)) → Keeps known known
+pub keeps : (known : Option (List ℕ)) → Keeps known known
 keeps None = tt
 keeps (Some bytes) = refl
 
 -- if a task fails while reading and keeps the output as it was, this is a failure of the task
-pub unwritten : (t : Task) (Tells : Explanation) (s : Streams) (failure : Failure)
-    → FailsReading t.IsBadInput Tells s.reader s.reader_now failure → Keeps s.writer.bytes s.writer_now.bytes
-    → Fails t Tells s failure
-unwritten t Tells s failure h kept = record {
+unwritten : (t : Task) (Tells : Explanation) (s : Streams) (failure : Failure)
+    → FailsReading t.IsBadInput Tells s.reader s.reader_now failure → s.writer_now ≡ s.writer → Fails t Tells s failure
+unwritten t Tells s failure h same = record {
   cause = record {
     bad_input = h.cause.bad_input;
     read_failed = h.cause.read_failed;
     write_failed = λ e. absurd (h.cause.no_writer e);
     front = λ e. absurd (h.cause.no_writer e);
-    nothing = λ _. kept;
+    nothing = λ _. subst (λ w. Keeps s.writer.bytes w.bytes) (sym same) (keeps s.writer.bytes);
   };
   words = h.words;
 }
 
-module _ (t : Task) (Tells : Explanation) (s : Streams) where
-  -- a task writes the text that it made, or the writer fails
-  pub wrote : (output : Output) (r : Result Bool Failure) → IsOutput t s.reader.bytes output
-      → Delivers (Ok output) s.writer s.writer_now r → IfOk r (Writes t s)
-  wrote output (Ok is_clean) made given =
-      (string_bytes output.text, subst (t.IsText s.reader.bytes (string_bytes output.text)) (sym given.0) made, given.1)
-  wrote output (Err failure) made given = tt
+-- a task that made a text or failed ends as the definitions say
+pub delivered : {W : Type 0} (t : Task) (from to : StreamState) (state : W → StreamState) (old new : W)
+    (made : Result Output Failure) (r : Result Bool Failure) → IfOk made (IsOutput t from.bytes)
+    → Delivers made (state old) (state new) r → IfOk r (Writes t (streams from to (state old) (state new)))
+delivered t from to state old new (Ok output) (Ok is_clean) is given =
+    (string_bytes output.text, subst (t.IsText from.bytes (string_bytes output.text)) (sym given.0) is, given.1)
+delivered t from to state old new (Ok output) (Err failure) is given = tt
+delivered t from to state old new (Err failure) r is given =
+    subst (λ x. IfOk x (Writes t (streams from to (state old) (state new)))) (sym given) tt
 
-  pub broke : (output : Output) (r : Result Bool Failure) → IsOutput t s.reader.bytes output
-      → Delivers (Ok output) s.writer s.writer_now r → IfErr r (Fails t Tells s)
-  broke output (Ok is_clean) made given = tt
-  broke output (Err failure) made given =
-      subst (Fails t Tells s) (sym given.0) (record {
+module _ (t : Task) (Tells : Explanation) (from to : StreamState) {W : Type 0} (state : W → StreamState) (old new : W) where
+  pub undelivered : (made : Result Output Failure) (r : Result Bool Failure) → IfOk made (IsOutput t from.bytes)
+      → IfErr made (FailsReading t.IsBadInput Tells from to) → Delivers made (state old) (state new) r
+      → IfErr made (λ _. new ≡ old) → IfErr r (Fails t Tells (streams from to (state old) (state new)))
+  undelivered (Ok output) (Ok is_clean) is fails given kept = tt
+  undelivered (Ok output) (Err failure) is fails given kept =
+      subst (Fails t Tells (streams from to (state old) (state new))) (sym given.0) (record {
         cause = record {
-          bad_input = λ bad. absurd (no_write WriteFailed bad refl);
+          bad_input = λ bad. absurd ((no_other WriteFailed bad).1 refl);
           read_failed = λ e. absurd (cc);
           write_failed = λ _. given.1;
-          front = λ _. (string_bytes output.text, output.is_clean, made, given.2);
+          front = λ _. (string_bytes output.text, output.is_clean, is, given.2);
           nothing = λ other. absurd (other refl);
         };
         words = tt;
       })
+  undelivered (Err failure) r is fails given kept =
+      subst (λ x. IfErr x (Fails t Tells (streams from to (state old) (state new)))) (sym given)
+      (unwritten t Tells (streams from to (state old) (state new)) failure fails (ap state kept))
 
-  -- a task that made a text or failed ends as the definitions say
-  pub delivered : (made : Result Output Failure) (r : Result Bool Failure) → IfOk made (IsOutput t s.reader.bytes)
-      → Delivers made s.writer s.writer_now r → IfOk r (Writes t s)
-  delivered (Ok output) r is given = wrote output r is given
-  delivered (Err failure) r is given = subst (λ x. IfOk x (Writes t s)) (sym given) tt
-
-  pub undelivered : {W : Type 0} (state : W → StreamState) (old new : W) → s.writer ≡ state old → s.writer_now ≡ state new
-      → (made : Result Output Failure) (r : Result Bool Failure) → IfOk made (IsOutput t s.reader.bytes)
-      → IfErr made (FailsReading t.IsBadInput Tells s.reader s.reader_now) → Delivers made s.writer s.writer_now r
-      → IfErr made (λ _. new ≡ old) → IfErr r (Fails t Tells s)
-  undelivered state old new before after (Ok output) r is fails given kept = broke output r is given
-  undelivered state old new before after (Err failure) r is fails given kept =
-      let same : s.writer_now ≡ s.writer = after ∙ (ap state kept ∙ sym before) in
-      subst (λ x. IfErr x (Fails t Tells s)) (sym given) (unwritten t Tells s failure fails
-      (subst (λ w. Keeps s.writer.bytes w.bytes) (sym same) (keeps s.writer.bytes)))
+  -- the failure of a task that passes it on
+  pub passed_on : {T : Type 0} (made : Result Output Failure) (q : Result T Failure) (failure : Failure)
+      → IsErrAnd q (λ e. e ≡ failure) → IfOk made (IsOutput t from.bytes)
+      → IfErr made (FailsReading t.IsBadInput Tells from to) → Delivers made (state old) (state new) (Err failure)
+      → IfErr made (λ _. new ≡ old) → IfErr q (Fails t Tells (streams from to (state old) (state new)))
+  passed_on made q failure passed is fails given kept =
+      at_err q failure _ passed (undelivered made (Err failure) is fails given kept)
 
 -- if a run fails while reading and keeps the output as it was, this is a failure of its task, unless the board failed
 pub unwritten_run : (t : Task) (Tells : Explanation) (old new writer : StreamState) (failed : RunFailure)
     → UnlessBoard (FailsReading t.IsBadInput Tells old new) failed
     → UnlessBoard (Fails t Tells (streams old new writer writer)) failed
 unwritten_run t Tells old new writer (run.Failed failure) h =
-    unwritten t Tells (streams old new writer writer) failure h (keeps writer.bytes)
+    unwritten t Tells (streams old new writer writer) failure h refl
 unwritten_run t Tells old new writer run.BoardFailed h = tt
 
 -- ---- a task
 
--- if a task limits its use of the reader and the failed calls of its writer, it limits its use of both streams
-pub asks_little : (task : TaskState) (s : Streams) → AsksReader s.reader s.reader_now
-    → s.writer_now.failures ≤ s.writer.failures + most_failed_calls → AsksAs task s
-asks_little (asked_replay is_strict) s reader few = record { reader = reader; tried = few }
-asks_little asked_trace s reader few = record { reader = reader; tried = few }
-asks_little (asked_draw part) s reader few = record { reader = reader; tried = few }
-asks_little asked_check s reader few = record { reader = reader; tried = few }
-asks_little asked_judge s reader few = (reader.tried, few)
-asks_little (asked_run with_journal with_observations key) s reader few = record { reader = reader; tried = few }
-
-module _ (task : TaskState) (s : Streams) (asks : AsksAs task s) where
-  -- a task that wrote its text, or failed with a cause, has the ending of this result
-  pub task_ended : (is_reported : Bool) → is_reported ≡ is_reporting task → (r : Result Bool Failure)
-      → IfOk r (Writes (task_of task) s) → IfErr r (Fails (task_of task) (explanation_of task) s)
-      → EndsTask task s (ending_of is_reported r)
-  task_ended is_reported reported (Ok is_clean) wrote fails = by_clean is_reported is_clean reported wrote where
-    by_clean : (is_reported is_clean : Bool) → is_reported ≡ is_reporting task → Writes (task_of task) s is_clean
-        → EndsTask task s (cond (is_reported && not is_clean) Refused Done)
-    by_clean true true reported wrote = record {
-      done = λ _. (true, wrote, subst (λ x. false ≡ (x && not true)) reported refl);
-      refused = λ e. absurd (cc);
-      not_refused = λ e. absurd (cc);
-      failed = tt;
-      board = λ e. absurd (cc);
-      asked_little = asks;
-    }
-    by_clean true false reported wrote = record {
-      done = λ e. absurd (cc);
-      refused = λ _. (false, wrote, subst (λ x. true ≡ (x && not false)) reported refl);
-      not_refused = λ e. absurd (cc);
-      failed = tt;
-      board = λ e. absurd (cc);
-      asked_little = asks;
-    }
-    by_clean false is_clean reported wrote = record {
-      done = λ _. (is_clean, wrote, subst (λ x. false ≡ (x && not is_clean)) reported refl);
-      refused = λ e. absurd (cc);
-      not_refused = λ e. absurd (cc);
-      failed = tt;
-      board = λ e. absurd (cc);
-      asked_little = asks;
-    }
-  task_ended is_reported reported (Err failure) wrote fails = record {
-    done = λ e. absurd (cc);
-    refused = λ e. absurd (cc);
-    not_refused = λ e. absurd (cc);
-    failed = fails;
-    board = λ e. absurd (cc);
-    asked_little = asks;
-  }
+-- a task that wrote its text, or failed with a cause, has the ending of this result
+pub task_ended : (task : TaskState) (s : Streams) (is_reported : Bool) (r : Result Bool Failure)
+    → is_reported ≡ is_reporting task → IfOk r (Writes (task_of task) s)
+    → IfErr r (Fails (task_of task) (explanation_of task) s) → EndsTask task s (ending_of is_reported r)
+task_ended task s is_reported (Ok is_clean) reported wrote fails =
+    by_test (is_reported && not is_clean) (ap (λ x. x && not is_clean) reported) where
+      by_test : (a : Bool) → a ≡ (is_reporting task && not is_clean) → EndsTask task s (cond a Refused Done)
+      by_test true e = (is_clean, wrote, e)
+      by_test false e = (is_clean, wrote, e)
+task_ended task s is_reported (Err failure) reported wrote fails = fails
 
 -- the ending of a task follows from the result of writing its text
 pub task_done : {W : Type 0} (writer : W → StreamState) (old new : W) (task : TaskState) (from to : StreamState)
@@ -150,63 +102,20 @@ pub task_done : {W : Type 0} (writer : W → StreamState) (old new : W) (task : 
     → IfOk made (IsOutput (task_of task) from.bytes)
     → IfErr made (FailsReading (task_of task).IsBadInput (explanation_of task) from to)
     → Delivers made (writer old) (writer new) r → IfErr made (λ _. new ≡ old)
-    → AsksAs task (streams from to (writer old) (writer new))
     → EndsTask task (streams from to (writer old) (writer new)) (ending_of is_reported r)
-task_done writer old new task from to is_reported made r reported is fails given kept asks =
-    let s = streams from to (writer old) (writer new) in
-    task_ended task s asks is_reported reported r
-    (delivered (task_of task) (explanation_of task) s made r is given)
-    (undelivered (task_of task) (explanation_of task) s writer old new refl refl made r is fails given kept)
-
--- the ending of a task follows in the same way if the task, its text and its reader have other names
-pub task_done_as : {S W : Type 0} (reader : S → StreamState) (writer : W → StreamState) (task known : TaskState)
-    (from to after : S) (old new : W) (made output : Result Output Failure × Bool) (r : Result Bool Failure)
-    → task ≡ known → to ≡ after → made ≡ output → output.1 ≡ is_reporting known
-    → IfOk output.0 (IsOutput (task_of known) (reader from).bytes)
-    → IfErr output.0 (FailsReading (task_of known).IsBadInput (explanation_of known) (reader from) (reader after))
-    → Delivers made.0 (writer old) (writer new) r → IfErr made.0 (λ _. new ≡ old)
-    → AsksAs known (streams (reader from) (reader after) (writer old) (writer new))
-    → EndsTask task (streams (reader from) (reader to) (writer old) (writer new)) (ending_of made.1 r)
-task_done_as reader writer task known from to after old new made output r same_task same_reader same reported is fails given kept asks =
-    subst (λ a. EndsTask a (streams (reader from) (reader to) (writer old) (writer new)) (ending_of made.1 r))
-    (sym same_task)
-    (subst (λ x. EndsTask known (streams (reader from) (reader x) (writer old) (writer new)) (ending_of made.1 r))
-    (sym same_reader)
-    (task_done writer old new known (reader from) (reader after) made.1 made.0 r
-    (subst (λ m. m.1 ≡ is_reporting known) (sym same) reported)
-    (subst (λ m. IfOk m.0 (IsOutput (task_of known) (reader from).bytes)) (sym same) is)
-    (subst (λ m. IfErr m.0
-    (FailsReading (task_of known).IsBadInput (explanation_of known) (reader from) (reader after))) (sym same) fails)
-    given kept asks))
+task_done writer old new task from to is_reported made r reported is fails given kept =
+    task_ended task (streams from to (writer old) (writer new)) is_reported r reported
+    (delivered (task_of task) from to writer old new made r is given)
+    (undelivered (task_of task) (explanation_of task) from to writer old new made r is fails given kept)
 
 -- the ending of a run follows from its result, with a text that is always clean or a failed board
-pub run_ended : (task : TaskState) (s : Streams) → is_run task ≡ true → AsksAs task s → is_reporting task ≡ false
-    → {T : Type 0} (r : Result T RunFailure) → OnOk r (Writes (task_of task) s true)
-    → IfErr r (UnlessBoard (Fails (task_of task) (explanation_of task) s)) → EndsTask task s (ending_of_run r)
-run_ended task s is_run asks silent (Ok x) wrote fails = record {
-  done = λ _. (true, wrote, subst (λ a. false ≡ (a && not true)) (sym silent) refl);
-  refused = λ e. absurd (cc);
-  not_refused = λ e. absurd (cc);
-  failed = tt;
-  board = λ e. absurd (cc);
-  asked_little = asks;
-}
-run_ended task s is_run asks silent (Err (run.Failed failure)) wrote fails = record {
-  done = λ e. absurd (cc);
-  refused = λ e. absurd (cc);
-  not_refused = λ e. absurd (cc);
-  failed = fails;
-  board = λ e. absurd (cc);
-  asked_little = asks;
-}
-run_ended task s is_run asks silent (Err run.BoardFailed) wrote fails = record {
-  done = λ e. absurd (cc);
-  refused = λ e. absurd (cc);
-  not_refused = λ e. absurd (cc);
-  failed = tt;
-  board = λ _. is_run;
-  asked_little = asks;
-}
+pub run_ended : (options : RunOptions) (s : Streams) {T : Type 0} (r : Result T RunFailure)
+    → OnOk r (Writes (task_of (task_with options)) s true)
+    → IfErr r (UnlessBoard (Fails (task_of (task_with options)) (explanation_of (task_with options)) s))
+    → EndsTask (task_with options) s (ending_of_run r)
+run_ended options s (Ok x) wrote fails = (true, wrote, refl)
+run_ended options s (Err (run.Failed failure)) wrote fails = fails
+run_ended options s (Err run.BoardFailed) wrote fails = refl
 
 -- an ending with a failed board comes only from a run whose board failed
 pub board_of_run : {T : Type 0} (r : Result T RunFailure) → ending_of_run r ≡ BoardFailed → r ≡ Err run.BoardFailed
@@ -224,59 +133,51 @@ no_board is_reported (Err failure) e = absurd (cc)
 -- ---- a call
 
 -- if the arguments request a task, the call ends as its task does
-module _ (arguments : List Text) (task : TaskState) (asks : AsksFor arguments task) where
-  call_cause : (s : Streams) (fault : IoFault) → IsCause (task_of task) s fault → IsCause (call_task arguments) s fault
-  call_cause s fault h = record {
-    bad_input = λ bad. (asks.1, subst (λ a. (task_of a).IsBadInput s.reader.bytes fault) (sym asks.2) (h.bad_input bad));
+module _ (arguments : List Text) (task : TaskState) (asks : AsksFor arguments task) (s : Streams) where
+  abbrev asked_task : TaskState
+  asked_task = task_in (line_of arguments)
+
+  call_cause : (fault : IoFault) → IsCause (task_of asked_task) s fault → IsCause (call_task arguments) s fault
+  call_cause fault h = record {
+    bad_input = λ bad. (asks.1, h.bad_input bad);
     read_failed = h.read_failed;
     write_failed = h.write_failed;
-    front = λ e. let was = h.front e in (
-      was.0,
-      was.1,
-      inr (asks.1, subst (λ a. (task_of a).IsText s.reader.bytes was.0 was.1) (sym asks.2) was.2),
-      was.3,
-    );
+    front = λ e. let was = h.front e in (was.0, was.1, inr (asks.1, was.2), was.3);
     nothing = h.nothing;
   }
 
-  caused : (s : Streams) (failure : Option Failure)
-      → IfSome failure (Fails (task_of task) (explanation_of task) s)
-      → IfSome failure (λ x. IsCause (call_task arguments) s x.fault)
-  caused s None h = tt
-  caused s (Some failure) h = call_cause s failure.fault h.cause
+  caused : (ending : Ending) → EndsTask asked_task s ending
+      → IfSome (failure_in ending) (λ failure. IsCause (call_task arguments) s failure.fault)
+  caused (Failed failure) h = call_cause failure.fault h.cause
+  caused _ h = tt
 
-  explained : (s : Streams) (failure : Option Failure)
-      → IfSome failure (Fails (task_of task) (explanation_of task) s)
-      → IfSome failure (λ x. IfSome x.words (λ words. (faults (line_of arguments) ≡ [])
-      × ExplainsIn (explanation_of (task_in (line_of arguments))) s.reader.bytes x.fault (string_bytes words)))
-  explained s None h = tt
-  explained s (Some failure) h = with_words failure.words h.words where
-    with_words : (words : Option (String Global))
-        → IfSome words (λ said. ExplainsIn (explanation_of task) s.reader.bytes failure.fault (string_bytes said))
-        → IfSome words (λ said. (faults (line_of arguments) ≡ [])
-        × ExplainsIn (explanation_of (task_in (line_of arguments))) s.reader.bytes failure.fault (string_bytes said))
-    with_words None h = tt
-    with_words (Some said) h = (
-      asks.1,
-      subst (λ a. ExplainsIn (explanation_of a) s.reader.bytes failure.fault (string_bytes said)) (sym asks.2) h,
-    )
+  explained : (ending : Ending) → EndsTask asked_task s ending
+      → IfSome (failure_in ending) (λ failure. IfSome failure.words (λ words. (faults (line_of arguments) ≡ [])
+      × ExplainsIn (explanation_of asked_task) s.reader.bytes failure.fault (string_bytes words)))
+  explained (Failed failure) h = IfSome_then failure.words h.words (λ words is. (asks.1, is))
+  explained _ h = tt
 
-  pub call_ended : (s : Streams) (ending : Ending) → EndsTask task s ending → EndsCall arguments s ending
-  call_ended s ending h = record {
-    done = λ e. inr (asks.1, subst (λ a. DidTask a s false) (sym asks.2) (h.done e));
-    refused = λ e. inr (asks.1, subst (λ a. DidTask a s true) (sym asks.2) (h.refused e));
-    not_text = λ none. (let both : true ≡ false = sym asks.0 ∙ none in absurd (cc));
-    mistaken = λ e. absurd (h.not_refused e);
-    cause = caused s (failure_in ending) h.failed;
-    words = explained s (failure_in ending) h.failed;
-    board = λ e. (asks.1, subst (λ a. is_run a ≡ true) (sym asks.2) (h.board e));
-    asked = subst (λ a. AsksAs a s) (sym asks.2) h.asked_little;
-  }
+  pub call_ended : (ending : Ending) → EndsTask task s ending → AsksAs task s → EndsCall arguments s ending
+  call_ended ending ends little =
+      let h = subst (λ a. EndsTask a s ending) (sym asks.2) ends in
+      record {
+        done = λ e. inr (asks.1, subst (EndsTask asked_task s) e h);
+        refused = λ e. inr (asks.1, subst (EndsTask asked_task s) e h);
+        not_text = λ none. (let both : true ≡ false = sym asks.0 ∙ none in absurd (cc));
+        mistaken = λ e. absurd (subst (EndsTask asked_task s) e h);
+        cause = caused ending h;
+        words = explained ending h;
+        board = λ e. (asks.1, subst (EndsTask asked_task s) e h);
+        asked = subst (λ a. AsksAs a s) (sym asks.2) little;
+      }
 
-  -- `IsUnread` does not hold for such a call, unless its arguments are refused
-  pub call_reads : (ending : Ending) → ending ≢ BadCommandLine → IsUnread arguments ending → ⊥
-  call_reads ending not_refused (inl refused) = not_refused refused
-  call_reads ending not_refused (inr some) = some asks.1
+  pub not_refused : (ending : Ending) → EndsTask task s ending → ending ≢ BadCommandLine
+  not_refused ending ends e = subst (EndsTask task s) e ends
+
+  -- `IsUnread` does not hold for such a call
+  pub call_reads : (ending : Ending) → EndsTask task s ending → IsUnread arguments ending → ⊥
+  call_reads ending ends (inl refused) = not_refused ending ends refused
+  call_reads ending ends (inr some) = some asks.1
 
 -- a property of an ending carries over to an ended call, and a property of options carries over to a run that is left
 pub ended_also : (begun : Begun) (P Q : Ending → Type 0) → ((ending : Ending) → P ending → Q ending) → IfEnded P begun
@@ -295,5 +196,36 @@ unread_takes : (known : Option (List ℕ)) → TakesAtMost (most_bytes + 1) know
 unread_takes None = ([], omega arith, tt)
 unread_takes (Some bytes) = ([], omega arith, refl)
 
-pub asks_nothing : (state : StreamState) → AsksReader state state
-asks_nothing state = record { taken = unread_takes state.bytes; tried = omega arith }
+pub asks_nothing : (task : TaskState) (state : StreamState) → AsksReaderAs task state state
+asks_nothing asked_judge state = omega arith
+asks_nothing _ state = record { taken = unread_takes state.bytes; tried = omega arith }
+
+-- no fault of input, output or memory is reported as the fault of the board
+pub app_not_board : (cause : IoFault) → app_fault cause ≢ app.BoardFailed
+app_not_board NotJson e = absurd (cc)
+app_not_board BadShape e = absurd (cc)
+app_not_board BadLimit e = absurd (cc)
+app_not_board ReadFailed e = absurd (cc)
+app_not_board WriteFailed e = absurd (cc)
+app_not_board NoMemory e = absurd (cc)
+
+-- a result with the fault of an input, a reader, a writer or memory is not `BoardFailed`
+pub result_not_board : {T : Type 0} (r : Result T AppFault) (cause : IoFault)
+    → IsErrAnd r (λ fault. fault ≡ app_fault cause) → r ≢ Err app.BoardFailed
+result_not_board (Ok done) cause is e = absurd (cc)
+result_not_board (Err fault) cause is e =
+    let same : fault ≡ app.BoardFailed = cc in
+    app_not_board cause (sym is ∙ same)
+
+-- a run failed because of its board, or its fault has a cause as the fault of any task does
+pub board_or_cause : (t : Task) (Tells : Explanation) (s : Streams) (failed : RunFailure)
+    → UnlessBoard (Fails t Tells s) failed → (fault_of_run failed ≡ app.BoardFailed)
+    ⊎ ((cause : IoFault) × (fault_of_run failed ≡ app_fault cause) × IsCause t s cause)
+board_or_cause t Tells s (run.Failed failure) h = inr (failure.fault, refl, h.cause)
+board_or_cause t Tells s run.BoardFailed h = inl refl
+
+-- a run whose result is `BoardFailed` failed because of its board
+pub at_board : {T : Type 0} (r : Result T AppFault) (failed : RunFailure)
+    → IsErrAnd r (λ fault. fault ≡ fault_of_run failed) → r ≡ Err app.BoardFailed → failed ≡ run.BoardFailed
+at_board r (run.Failed failure) is e = absurd (result_not_board r failure.fault is e)
+at_board r run.BoardFailed is e = refl

@@ -1,10 +1,8 @@
-use Rattle.std.proofs.Common.{◌≡◌, ◌∙◌, inr, refl, sym, true}
-use Rattle.clap.specs.Words.{kind_of}
-use Rattle.mencius_command_line.specs.CommandLine.{are_texts, bytes_of, task_state}
+use Rattle.mencius_app.proofs.Words.{◌≡◌, ◌∙◌, inr, refl, sym, true, kind_of, are_texts, bytes_of, task_state}
 use Rattle.mencius_app.specs.Calls.{AsksFor}
 use Rattle.mencius_app.specs.Tasks.{streams}
 use Rattle.mencius_app.proofs.inputs.ArgumentAnswers.{answered}
-use Rattle.mencius_app.proofs.inputs.TaskEnds.{call_ended, call_reads, ended_also, run_also}
+use Rattle.mencius_app.proofs.inputs.TaskEnds.{call_ended, call_reads, ended_also, not_refused, run_also}
 use Rattle.mencius_app.proofs.call.begin.Goals as goal
 
 pub returns-in-Ok : goal.returns-in-Ok
@@ -18,15 +16,13 @@ returns-in-Ok g c =
     let s = streams (g.R.Source.state c.args.source.now) (g.R.Source.state c.begin_task.new.source)
     (g.W.Sink.state c.args.sink.now) (g.W.Sink.state c.begin_task.new.sink) in
     record {
-      call = ended_also begun _ _ (call_ended arguments task asks s) h.ended;
+      call = ended_also begun _ _ (λ ending is. call_ended arguments task asks s ending is.0 is.1) h.ended;
       no_board = h.no_board;
-      unread = ended_also begun _ _ (λ ending is unread. absurd (call_reads arguments task asks ending is.not_refused unread))
-          h.ended;
-      unwritten = ended_also begun _ _ (λ ending is refused. absurd (is.not_refused refused)) h.ended;
-      complaint = ended_also begun _ _ (λ ending is refused. absurd (is.not_refused refused)) h.ended;
+      unread = ended_also begun _ _ (λ ending is some. absurd (call_reads arguments task asks s ending is.0 some)) h.ended;
+      unwritten = ended_also begun _ _ (λ ending is e. absurd (not_refused arguments task asks s ending is.0 e)) h.ended;
+      complaint = ended_also begun _ _ (λ ending is e. absurd (not_refused arguments task asks s ending is.0 e)) h.ended;
       quiet = ended_also begun _ _ (λ ending is _. refl) h.ended;
-      run = run_also begun _ _ (λ options is. ((texts, c.in-Ok.ensures.faults, sym c.in-Ok.ensures.task ∙ is.0), is.1, is.2, refl))
-          h.run;
+      run = run_also begun _ _ (λ options is. ((texts, asks.1, asks.2 ∙ is.0), is.1, is.2, refl)) h.run;
     }
 
 pub returns-in-Err : goal.returns-in-Err

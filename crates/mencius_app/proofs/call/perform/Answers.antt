@@ -1,8 +1,7 @@
-use Rattle.std.proofs.Common.{◌∙◌, inl, inr, subst}
-use Rattle.mencius_command_line.specs.CommandLine.{bytes_of}
-use Rattle.mencius_app.specs.Calls.{EndsCall, task_with}
+use Rattle.mencius_app.proofs.Words.{◌∙◌, inl, inr, bytes_of}
+use Rattle.mencius_app.specs.Calls.{task_with}
 use Rattle.mencius_app.specs.Tasks.{streams}
-use Rattle.mencius_app.proofs.inputs.TaskEnds.{call_ended, call_reads}
+use Rattle.mencius_app.proofs.inputs.TaskEnds.{call_ended, call_reads, not_refused}
 use Rattle.mencius_app.proofs.call.perform.Goals as goal
 
 pub returns-in-Ended : goal.returns-in-Ended
@@ -21,25 +20,19 @@ returns-in-Ended g c =
 
 pub returns-in-Run : goal.returns-in-Run
 returns-in-Run g c =
-    let arguments = bytes_of c.args.arguments.now in
     let was = c.in-Run.ensures.run in
-    let ran = c.perform_run in
-    let task = task_with c.in-Run.options in
-    let reader_now = g.R.Source.state ran.new.source in
-    let writer_now = g.W.Sink.state ran.new.sink in
+    let ran = c.perform_run.ensures in
+    let s = streams (g.R.Source.state c.begin.new.source) (g.R.Source.state c.perform_run.new.source)
+    (g.W.Sink.state c.begin.new.sink) (g.W.Sink.state c.perform_run.new.sink) in
+    let bad = not_refused (bytes_of c.args.arguments.now) (task_with c.in-Run.options) was.0 s c.perform_run.result ran.ended in
     record {
-      call = subst (λ source. EndsCall arguments (streams (g.R.Source.state source) reader_now
-          (g.W.Sink.state c.args.sink.now) writer_now) ran.result) was.1
-          (subst (λ sink. EndsCall arguments (streams (g.R.Source.state c.begin.new.source) reader_now
-          (g.W.Sink.state sink) writer_now) ran.result) was.2
-          (call_ended arguments task was.0
-          (streams (g.R.Source.state c.begin.new.source) reader_now (g.W.Sink.state c.begin.new.sink) writer_now)
-          ran.result ran.ensures.ended));
-      unread = λ unread. absurd (call_reads arguments task was.0 ran.result ran.ensures.ended.not_refused unread);
+      call = rw (← was.1, ← was.2) (call_ended _ _ was.0 _ _ ran.ended ran.asked);
+      unread = λ unread. absurd (call_reads (bytes_of c.args.arguments.now) (task_with c.in-Run.options) was.0 s
+          c.perform_run.result ran.ended unread);
       unwritten = λ either. elim either [
-        | inl refused ↦ absurd (ran.ensures.ended.not_refused refused)
-        | inr failed ↦ ran.ensures.board failed ∙ was.2
+        | inl refused ↦ absurd (bad refused)
+        | inr failed ↦ ran.board failed ∙ was.2
       ];
-      complaint = λ refused. absurd (ran.ensures.ended.not_refused refused);
+      complaint = λ refused. absurd (bad refused);
       quiet = λ _. was.3;
     }

@@ -1,5 +1,4 @@
-use Rattle.std.proofs.Common.{◌≡◌, ◌++◌, map, string_bytes, take}
-use Rattle.std.specs.List.{flat_map}
+use Rattle.mencius_app.proofs.Words.{◌≡◌, ◌++◌, map, string_bytes, take, flat_map}
 use Rattle.mencius_app.specs.Check.{count_text}
 use Rattle.mencius_app.proofs.checks.push_list_counts.Given as goal
 

@@ -1,4 +1,4 @@
-use Rattle.std.proofs.Common.{◌++◌, ap, ap₂, append-nil, subst}
+use Rattle.mencius_app.proofs.Words.{◌++◌, ap, ap₂, append-nil, subst}
 use Rattle.mencius_app.specs.Calls.{WritesOrFails}
 use Rattle.mencius_app.specs.Ending.{fault_line, words_line}
 use Rattle.mencius_app.specs.declared.fault.AppFault.TheVariants.{BoardFailed}

@@ -1,5 +1,4 @@
-use Rattle.std.proofs.Common.{◌<◌, ◌++◌, ◌^◌, ap₂, subst}
-use Rattle.mencius_io.specs.Streams.{WritesFront}
+use Rattle.mencius_app.proofs.Words.{◌<◌, ◌++◌, ◌^◌, ap₂, subst, WritesFront}
 use Rattle.mencius_app.proofs.texts.JoinedTexts.{failed_behind, front_behind, on_err_also}
 use Rattle.mencius_app.proofs.ending.write_both.Goals as goal
 

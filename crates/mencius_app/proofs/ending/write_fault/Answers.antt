@@ -1,5 +1,4 @@
-use Rattle.std.specs.Prelude.{codes}
-use Rattle.std.proofs.Common.{◌++◌, ◌∙◌, ap, append-nil, sym}
+use Rattle.mencius_app.proofs.Words.{codes, ◌++◌, ◌∙◌, ap, append-nil, sym}
 use Rattle.mencius_app.specs.Ending.{fault_line}
 use Rattle.mencius_app.proofs.texts.JoinedTexts.{write_result}
 use Rattle.mencius_app.proofs.ending.write_fault.Goals as goal

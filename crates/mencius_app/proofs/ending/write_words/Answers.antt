@@ -1,6 +1,4 @@
-use Rattle.std.specs.Prelude.{codes}
-use Rattle.std.proofs.Common.{◌++◌, subst}
-use Rattle.mencius_io.specs.Streams.{WritesFront}
+use Rattle.mencius_app.proofs.Words.{codes, ◌++◌, subst, WritesFront}
 use Rattle.mencius_app.proofs.texts.JoinedTexts.{front_behind}
 use Rattle.mencius_app.proofs.ending.write_words.Goals as goal
 

@@ -1,5 +1,4 @@
-use Rattle.std.proofs.Common.{◌∙◌}
-use Rattle.mencius_trace.specs.LastLines.{trace_text}
+use Rattle.mencius_app.proofs.Words.{◌∙◌, trace_text}
 use Rattle.mencius_app.specs.Replay.{IsMadeOf}
 use Rattle.mencius_app.proofs.inputs.Inputs.{at_err}
 use Rattle.mencius_app.proofs.inputs.PictureFaults.{without_picture, without_scenario}

@@ -1,4 +1,4 @@
-use Rattle.std.proofs.Common.{rules, ◌≡◌, Ok, append_assoc}
+use Rattle.mencius_app.proofs.Words.{rules, ◌≡◌, Ok, append_assoc}
 use Rattle.mencius_app.proofs.pictures.words_of_levels.Goals as goal
 
 -- the formatted text is the text of the clause, but its parts are grouped differently

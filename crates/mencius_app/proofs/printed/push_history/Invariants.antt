@@ -1,7 +1,4 @@
-use Rattle.std.proofs.Common.{◌≡◌, ◌∷◌, ◌++◌, take, string_bytes}
-use Rattle.std.specs.List.{flat_map}
-use Rattle.mencius_cluster.specs.State.{trace_of}
-use Rattle.mencius_trace.specs.Words.{ticket_text}
+use Rattle.mencius_app.proofs.Words.{◌≡◌, ◌∷◌, ◌++◌, take, string_bytes, flat_map, trace_of, ticket_text}
 use Rattle.mencius_app.proofs.printed.push_history.Given as goal
 
 abbrev pub invariant-loop-ticket : goal.invariant-loop-ticket

@@ -1,13 +1,6 @@
-use Rattle.std.proofs.Common.{◌≡◌, ◌∙◌, ℕ, zero, suc, ◌+◌, ◌≤◌, ◌++◌, List, [], ◌∷◌, ap, append-nil, append_assoc, arith, length, refl, string_bytes, sym, take}
+use Rattle.mencius_app.proofs.Words.{◌≡◌, ◌∙◌, ℕ, zero, suc, ◌+◌, ◌≤◌, ◌++◌, List, [], ◌∷◌, ap, append-nil, append_assoc, arith, length, refl, string_bytes, sym, take, option_map_or, take_all, reply_of, Command, Trace, submitted_commands, trace_of, answer_line}
 use Rattle.std.specs.List.{flat_map, slice_get}
-use Rattle.std.specs.Option.{option_map_or}
-use Rattle.std.proofs.lemmas.List.{take_all}
-use Rattle.mencius_model.specs.Replies.{reply_of}
-use Rattle.mencius_base.specs.declared.command.Command.{Command}
 use Rattle.mencius_base.specs.Numbers.{ServerId}
-use Rattle.mencius_model.specs.Trace.{Trace, submitted_commands}
-use Rattle.mencius_cluster.specs.State.{trace_of}
-use Rattle.mencius_trace.specs.Words.{answer_line}
 use Rattle.mencius_app.proofs.printed.push_replies.Goals as goal
 
 -- the text of the items up to a place is the text of the items before it, followed by the text of the item there

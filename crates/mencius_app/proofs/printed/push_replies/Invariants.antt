@@ -1,9 +1,4 @@
-use Rattle.std.proofs.Common.{◌≡◌, ◌++◌, string_bytes, take}
-use Rattle.std.specs.List.{flat_map}
-use Rattle.mencius_cluster.specs.State.{trace_of}
-use Rattle.mencius_model.specs.Replies.{reply_of}
-use Rattle.mencius_model.specs.Trace.{submitted_commands}
-use Rattle.mencius_trace.specs.Words.{answer_line}
+use Rattle.mencius_app.proofs.Words.{◌≡◌, ◌++◌, string_bytes, take, flat_map, trace_of, reply_of, submitted_commands, answer_line}
 use Rattle.mencius_app.proofs.printed.push_replies.Given as goal
 
 abbrev pub invariant-loop-ticket : goal.invariant-loop-ticket

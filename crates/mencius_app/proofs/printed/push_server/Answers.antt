@@ -1,8 +1,4 @@
-use Rattle.std.proofs.Common.{◌≡◌, ℕ, List, arith, rules, subst}
-use Rattle.std.proofs.lemmas.Option.{get_or_from_slice_get, slice_get_within}
-use Rattle.std.specs.Prelude.{Contains}
-use Rattle.mencius_cluster.specs.State.{trace_of}
-use Rattle.mencius_model.specs.Executed.{history}
+use Rattle.mencius_app.proofs.Words.{◌≡◌, ℕ, List, arith, rules, subst, get_or_from_slice_get, slice_get_within, Contains, trace_of, history}
 use Rattle.mencius_app.proofs.printed.push_server.Goals as goal
 
 pub push_history-requires : goal.push_history-requires

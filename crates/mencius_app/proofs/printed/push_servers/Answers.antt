@@ -1,9 +1,6 @@
-use Rattle.std.proofs.Common.{◌≡◌, ◌++◌, ap, ◌∙◌, append-nil, arith, string_bytes, sym}
-use Rattle.std.specs.List.{flat_map, range_with_len}
+use Rattle.mencius_app.proofs.Words.{◌≡◌, ◌++◌, ap, ◌∙◌, append-nil, arith, string_bytes, sym, flat_map, range_with_len, trace_of, texts_further}
 use Rattle.mencius_base.specs.Members.{numbers_below}
 use Rattle.mencius_app.specs.Report.{server_line}
-use Rattle.mencius_cluster.specs.State.{trace_of}
-use Rattle.mencius_trace.proofs.TextLoops.{texts_further}
 use Rattle.mencius_app.proofs.printed.push_servers.Goals as goal
 
 pub loop-server-preserved : goal.loop-server-preserved

@@ -1,18 +1,16 @@
-use Rattle.std.proofs.Common.{◌≡◌, ◌++◌, arith, string_bytes, subst}
-use Rattle.mencius_app.specs.States.{slot_lines}
-use Rattle.mencius_base.specs.Limits.{instance_count}
-use Rattle.mencius_cluster.specs.State.{trace_of}
-use Rattle.mencius_app.proofs.texts.SlotLines.{no_slots, slots_further}
+use Rattle.mencius_app.proofs.Words.{◌≡◌, ◌++◌, append-nil, arith, string_bytes, subst, sym, instance_count, trace_of, texts_further}
+use Rattle.mencius_app.specs.States.{slot_line_at, slot_lines}
 use Rattle.mencius_app.proofs.states.push_slots.Goals as goal
 
 pub loop-inst-init : goal.loop-inst-init
-loop-inst-init c =
-    no_slots c.args.cluster.now.members (trace_of c.args.cluster.now) c.args.server (string_bytes c.args.text.now)
+unfolding slot_lines
+loop-inst-init c = sym (append-nil (string_bytes c.args.text.now))
 
 pub loop-inst-preserved : goal.loop-inst-preserved
+unfolding slot_lines
 loop-inst-preserved c =
-    slots_further c.args.cluster.now.members (trace_of c.args.cluster.now) c.args.server c.loop-inst.inst _ _ _
-    c.loop-inst.invariant c.in_ok-push_slot_at.ensures
+    texts_further (slot_line_at c.args.cluster.now.members (trace_of c.args.cluster.now) c.args.server)
+    c.loop-inst.inst _ _ _ c.loop-inst.invariant c.in_ok-push_slot_at.ensures
 
 pub returns : goal.returns
 returns c =

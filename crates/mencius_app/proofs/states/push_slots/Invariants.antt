@@ -1,6 +1,5 @@
-use Rattle.std.proofs.Common.{◌≡◌, ◌++◌, string_bytes}
+use Rattle.mencius_app.proofs.Words.{◌≡◌, ◌++◌, string_bytes, trace_of}
 use Rattle.mencius_app.specs.States.{slot_lines}
-use Rattle.mencius_cluster.specs.State.{trace_of}
 use Rattle.mencius_app.proofs.states.push_slots.Given as goal
 
 abbrev pub invariant-loop-inst : goal.invariant-loop-inst

@@ -1,7 +1,5 @@
-use Rattle.std.proofs.Common.{◌≡◌, ◌++◌, string_bytes}
-use Rattle.std.specs.List.{flat_map, range_with_len}
+use Rattle.mencius_app.proofs.Words.{◌≡◌, ◌++◌, string_bytes, flat_map, range_with_len, trace_of}
 use Rattle.mencius_app.specs.States.{server_state}
-use Rattle.mencius_cluster.specs.State.{trace_of}
 use Rattle.mencius_app.proofs.states.push_states.Given as goal
 
 abbrev pub invariant-loop-server : goal.invariant-loop-server

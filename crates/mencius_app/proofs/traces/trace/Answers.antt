@@ -1,18 +1,7 @@
-use Rattle.std.proofs.Common.{Err, refl}
-use Rattle.mencius_input.specs.declared.kind.Kind.TheVariants.{Replay}
-use Rattle.mencius_app.specs.Failures.{ExplainsAs}
-use Rattle.mencius_app.specs.Trace.{trace_task}
-use Rattle.mencius_app.specs.Tasks.{streams}
-use Rattle.mencius_app.proofs.inputs.Inputs.{at_err}
-use Rattle.mencius_app.proofs.inputs.TaskEnds.{undelivered}
+use Rattle.mencius_app.proofs.inputs.TaskEnds.{passed_on}
 use Rattle.mencius_app.proofs.traces.trace.Goals as goal
 
 pub returns-in_err-deliver-clause-fault : goal.returns-in_err-deliver-clause-fault
 returns-in_err-deliver-clause-fault g c =
-    at_err _ c.in_err-deliver.field-0.0 _ c.from_residual.ensures.1
-    (undelivered trace_task (ExplainsAs Replay)
-    (streams (g.R.Source.state c.args.source.now) (g.R.Source.state c.read_trace.new.source)
-    (g.W.Sink.state c.args.sink.now) (g.W.Sink.state c.deliver.new.sink))
-    g.W.Sink.state c.args.sink.now c.deliver.new.sink refl refl c.read_trace.result (Err c.in_err-deliver.field-0.0)
-    c.read_trace.ensures.made c.read_trace.ensures.fault c.in_err-deliver.ensures.delivers
-    c.in_err-deliver.ensures.unwritten)
+    passed_on _ _ _ _ g.W.Sink.state _ _ _ _ _ c.from_residual.ensures.1 c.read_trace.ensures.made c.read_trace.ensures.fault
+    c.in_err-deliver.ensures.delivers c.in_err-deliver.ensures.unwritten

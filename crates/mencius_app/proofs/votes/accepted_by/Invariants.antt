@@ -1,7 +1,4 @@
-use Rattle.std.proofs.Common.{◌≡◌, ◌<◌, ℕ, None, get_or, take, vec_len}
-use Rattle.mencius_base.specs.Limits.{instance_count}
-use Rattle.mencius_cluster.specs.State.{trace_of}
-use Rattle.mencius_model.specs.Trace.{sent_messages}
+use Rattle.mencius_app.proofs.Words.{◌≡◌, ◌<◌, ℕ, None, get_or, take, vec_len, instance_count, trace_of, sent_messages}
 use Rattle.mencius_app.proofs.texts.SentAcceptances.{accepted_among}
 use Rattle.mencius_app.proofs.votes.accepted_by.Given as goal
 

@@ -1,4 +1,4 @@
-use Rattle.std.proofs.Common.{◌≡◌, ℕ, None, get_or, vec_len}
+use Rattle.mencius_app.proofs.Words.{◌≡◌, ℕ, None, get_or, vec_len}
 use Rattle.mencius_app.proofs.votes.no_ballots.Given as goal
 
 abbrev pub invariant-loop-inst : goal.invariant-loop-inst

@@ -1,6 +1,4 @@
-use Rattle.std.proofs.Common.{◌≡◌, None, take}
-use Rattle.mencius_cluster.specs.State.{trace_of}
-use Rattle.mencius_model.specs.Trace.{sent_messages}
+use Rattle.mencius_app.proofs.Words.{◌≡◌, None, take, trace_of, sent_messages}
 use Rattle.mencius_app.proofs.texts.SentAcceptances.{proposed_among}
 use Rattle.mencius_app.proofs.votes.proposal.Given as goal
 
