@@ -25,15 +25,12 @@ pub record IsJudgementOf (known : Option (List ℕ)) (text : List ℕ) (kept : B
   pub is : text ≡ verdict_line verdict
   pub says : kept ≡ is_kept verdict
 
--- a line of the log has this fault, and the lines before it keep all promises
-abbrev pub HasBadLine : List ℕ → IoFault → Type 0
-HasBadLine bytes fault = (number : ℕ) × AreBad bytes fault number
-
--- the task of judging. Its text is clean exactly if all promises are kept
+-- the task of judging. Its text is clean exactly if all promises are kept. Its input is bad if a line has this fault, and
+-- the lines before it keep all promises
 abbrev pub judge_task : Task
 judge_task = record {
   IsText = IsJudgementOf;
-  IsBadInput = λ known fault. IfSome known (λ bytes. HasBadLine bytes fault);
+  IsBadInput = λ known fault. IfSome known (λ bytes. (number : ℕ) × AreBad bytes fault number);
 }
 
 -- the words name the number of a line of the log that has this fault

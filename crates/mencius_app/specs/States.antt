@@ -1,5 +1,5 @@
 -- The text of a state, with the knowledge of each server about each instance.
-use Rattle.std.specs.Prelude.{◌≡◌, ◌<◌, ℕ, Bool, List, [], ◌++◌, ◌||◌, codes, decimal, if◌then◌else◌, is_some, nat_lt, Option, Some, None, slice_index_or}
+use Rattle.std.specs.Prelude.{ℕ, Bool, List, [], ◌++◌, ◌||◌, codes, decimal, if◌then◌else◌, is_some, nat_lt, Option, Some, None}
 use Rattle.std.specs.List.{enumerate_from, flat_map, range_with_len}
 use Rattle.mencius_base.specs.Limits.{instance_count}
 use Rattle.mencius_base.specs.Members.{Membership, numbers_below}
@@ -9,17 +9,13 @@ use Rattle.mencius_base.specs.declared.message.Value.{Value}
 use Rattle.mencius_base.specs.declared.message.Vote.{Vote}
 use Rattle.mencius_server.specs.declared.glance.Glance.{Glance}
 use Rattle.mencius_model.specs.Trace.{Trace}
-use Rattle.mencius_model.specs.Instance.{accepted_ballot, vote}
+use Rattle.mencius_model.specs.Instance.{vote}
 use Rattle.mencius_model.specs.Outcomes.{outcomes_from, trace_from}
 use Rattle.mencius_trace.specs.Facts.{at_instance, value_text, vote_text}
 use Rattle.mencius_trace.specs.Effects.{glance}
 use Rattle.mencius_app.specs.Replay.{refused_line, text_task}
 use Rattle.mencius_app.specs.Tasks.{Task}
 use Rattle.mencius_app.specs.Report.{server_line}
-
--- the list contains for each instance the greatest ballot that p accepted there, if it accepted any
-abbrev pub AreAccepted : Trace → ServerId → List (Option BallotNo) → Type 0
-AreAccepted w p ballots = (i : ℕ) → i < instance_count → slice_index_or ballots i None ≡ accepted_ballot w p i
 
 -- whether a server with this glance and this vote heard or did anything at the instance
 abbrev pub is_heard_of : Glance → Option Vote → Bool
@@ -66,14 +62,11 @@ slot_lines m w p n = flat_map (slot_line_at m w p) (range_with_len 0 n)
 abbrev pub server_state : Membership → Trace → ServerId → List ℕ
 server_state m w p = server_line m w p ++ slot_lines m w p instance_count
 
--- the states of all servers, in the order of their numbers
-abbrev pub server_states : Membership → Trace → List ℕ
-server_states m w = flat_map (server_state m w) (numbers_below m.count)
-
 -- the text of a state, with a line for each refused event, and then the state of each server after all events
 abbrev pub state_text : Membership → List Event → List ℕ
 state_text m es =
-    flat_map refused_line (enumerate_from 0 (outcomes_from m [] es)) ++ server_states m (trace_from m [] es)
+    flat_map refused_line (enumerate_from 0 (outcomes_from m [] es))
+    ++ flat_map (server_state m (trace_from m [] es)) (numbers_below m.count)
 
 -- the task of printing the state after a scenario, whose text is always clean
 abbrev pub state_task : Task

@@ -2,13 +2,14 @@
 
 ghost use Rattle.std.specs.Prelude.{◌≡◌, ◌<◌, ◌++◌, [], true, string_bytes, IfErr, IfOk, OnOk};
 ghost use Rattle.std.specs.Io.KnownBytes.{IsAtEnd};
+ghost use Rattle.std.specs.List.{flat_map};
 ghost use Rattle.mencius_app.specs.Failures.{ExplainsAs, Fails, FailsReading};
 ghost use Rattle.mencius_app.specs.Input.{HasFault, unless_long};
 ghost use Rattle.mencius_app.specs.Replay.{salt_of_events};
-ghost use Rattle.mencius_app.specs.States.{acceptor_text, is_heard_of, learner_text, proposer_text, server_state, server_states, slot_line, slot_line_at, slot_lines, slot_text, state_task, state_text, value_or_none};
+ghost use Rattle.mencius_app.specs.States.{acceptor_text, is_heard_of, learner_text, proposer_text, server_state, slot_line, slot_line_at, slot_lines, slot_text, state_task, state_text, value_or_none};
 ghost use Rattle.mencius_app.specs.Tasks.{AsksLittle, AsksReader, IsOutput, Writes, streams};
 ghost use Rattle.mencius_base.specs.Limits.{instance_count};
-ghost use Rattle.mencius_base.specs.Members.{IsMember};
+ghost use Rattle.mencius_base.specs.Members.{IsMember, numbers_below};
 ghost use Rattle.mencius_cluster.specs.Salt.{hasher_with};
 ghost use Rattle.mencius_cluster.specs.State.{trace_of};
 ghost use Rattle.mencius_model.specs.Instance.{accepted_ballot};
@@ -102,7 +103,8 @@ fn push_state(
 
 fn push_states(alloc: Global, text: &mut String, cluster: &Cluster) -> Result<(), AllocError>
     ensures { OnOk result (string_bytes text.new ≡ string_bytes text.old
-        ++ server_states cluster.now.members (trace_of cluster.now)) }
+        ++ flat_map (server_state cluster.now.members (trace_of cluster.now))
+        (numbers_below cluster.now.members.count)) }
 {
     for server in 0..cluster.servers() {
         push_server_state(alloc, text, cluster, server)?;

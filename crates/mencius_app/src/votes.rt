@@ -3,9 +3,8 @@
 ghost use Rattle.std.specs.Prelude.{ℕ, ◌≡◌, ◌<◌, IfOk, None, Some, option_and_then, option_map, slice_index_or, vec_len};
 ghost use Rattle.mencius_base.specs.Limits.{instance_count};
 ghost use Rattle.mencius_cluster.specs.State.{trace_of};
-ghost use Rattle.mencius_model.specs.Instance.{accepted_by, greater_ballot, proposal, proposal_by};
+ghost use Rattle.mencius_model.specs.Instance.{accepted_ballot, accepted_by, greater_ballot, proposal, proposal_by};
 ghost use Rattle.mencius_model.specs.Trace.{Sent};
-ghost use Rattle.mencius_app.specs.States.{AreAccepted};
 
 use mencius_base::{Ballot, INSTANCES, Message, Value, Vote};
 use mencius_cluster::Cluster;
@@ -18,7 +17,8 @@ pub(crate) fn accepted_by(
     server: u8,
 ) -> Result<Vec<Option<Ballot>>, AllocError>
     ensures len { IfOk result (λ x. vec_len x ≡ instance_count) }
-    ensures ballots { IfOk result (λ x. AreAccepted (trace_of cluster.now) server x.items) }
+    ensures ballots { IfOk result (λ x. (i : ℕ) → i < instance_count
+        → slice_index_or x.items i None ≡ accepted_ballot (trace_of cluster.now) server i) }
 {
     let _named: Option<Vote> = None; // proof: a message can hold a vote
     let mut ballots = no_ballots(alloc)?;

@@ -1,5 +1,5 @@
 -- Two texts that are written one after the other count as one text, and a lookup finds the text at its key.
-use Rattle.mencius_app.proofs.Words.{◌≡◌, ℕ, List, [], ◌++◌, length, Option, refl, ap, sym, ◌∙◌, arith, append_assoc, IsPrefix, Command, ClusterState, trace_of, longest_commands, value_at, ◌⊎◌, inl, inr, ◌+◌, ◌^◌, ◌<◌, ◌≤◌, take, subst, Result, Ok, Err, OnErr, OnOk, Appends, length-append, HasFailed, StreamState, WritesFront, most_failures}
+use Rattle.mencius_app.proofs.Words.{◌≡◌, ℕ, List, ◌++◌, length, Option, refl, ap, sym, ◌∙◌, arith, IsPrefix, Command, ClusterState, trace_of, longest_commands, value_at, ◌⊎◌, inl, inr, ◌+◌, ◌^◌, ◌<◌, ◌≤◌, take, subst, Result, Ok, Err, OnErr, OnOk, Appends, length-append, HasFailed, StreamState, WritesFront, most_failures}
 use Rattle.mencius_board.specs.Boards.{longest_of}
 use Rattle.mencius_model.proofs.trace.Prefixes.{prefix_whole}
 use Rattle.mencius_app.specs.Run.{text_at}
@@ -19,14 +19,6 @@ pub found_at : (x : ClusterState) (key : List ℕ) (shown last : List Command) (
 found_at x key shown last found is told count text =
     let same : shown ≡ last = prefix_whole shown last told (omega (arith, count)) in
     text ∙ ap (value_at key) (sym same ∙ is ∙ longest_is x)
-
--- a text that begins empty and gets three parts is the three parts in order
-pub three_parts : (t0 t1 t2 t3 journal report lookup : List ℕ) → t0 ≡ [] → t1 ≡ t0 ++ journal → t2 ≡ t1 ++ report
-    → t3 ≡ t2 ++ lookup → t3 ≡ journal ++ (report ++ lookup)
-three_parts t0 t1 t2 t3 journal report lookup none first second third =
-    third
-    ∙ ap (λ text. text ++ lookup) (second ∙ ap (λ text. text ++ report) (first ∙ ap (λ text. text ++ journal) none))
-    ∙ append_assoc journal report lookup
 
 -- a prefix of the second text, after the whole first text, is a prefix of both texts together
 pub front_behind : (old mid new : Option (List ℕ)) (xs ys : List ℕ) → Appends old mid xs → WritesFront mid new ys

@@ -4,19 +4,11 @@ use Rattle.mencius_app.specs.Tasks.{streams}
 use Rattle.mencius_app.proofs.inputs.TaskEnds.{call_ended, call_reads, not_refused}
 use Rattle.mencius_app.proofs.call.perform.Goals as goal
 
-pub returns-in-Ended : goal.returns-in-Ended
-returns-in-Ended g c =
-    let h = c.in-Ended.ensures in
-    record {
-      call = h.call;
-      unread = h.unread;
-      unwritten = λ either. elim either [
-        | inl refused ↦ h.unwritten refused
-        | inr failed ↦ absurd (h.no_board failed)
-      ];
-      complaint = h.complaint;
-      quiet = h.quiet;
-    }
+pub returns-in-Ended-clause-unwritten : goal.returns-in-Ended-clause-unwritten
+returns-in-Ended-clause-unwritten g c = λ either. elim either [
+  | inl refused ↦ c.in-Ended.ensures.unwritten refused
+  | inr failed ↦ absurd (c.in-Ended.ensures.no_board failed)
+]
 
 pub returns-in-Run : goal.returns-in-Run
 returns-in-Run g c =

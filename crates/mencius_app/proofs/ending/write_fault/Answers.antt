@@ -4,9 +4,6 @@ use Rattle.mencius_app.proofs.texts.JoinedTexts.{write_result}
 use Rattle.mencius_app.proofs.ending.write_fault.Goals as goal
 use Rattle.mencius_app.proofs.ending.write_fault.Goals.{in-Some, in-None}
 
-pub returns-clause-status : goal.returns-clause-status
-returns-clause-status g c = c.exit_status.ensures
-
 pub returns-clause-lines : goal.returns-clause-lines
 returns-clause-lines g c = elim c.match-words.branch [
   | in-Some w ↦ rw (w.errors-is, w.in-Some.is) (write_result w.write_words.result _ _ _ _

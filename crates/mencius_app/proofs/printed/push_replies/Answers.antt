@@ -26,9 +26,6 @@ further f xs n before old new had got =
 abbrev line_of : Trace → Command × ServerId → List ℕ
 line_of w x = answer_line x.0.id (reply_of w x.0.id)
 
-pub loop-ticket-init : goal.loop-ticket-init
-loop-ticket-init c = sym (append-nil _)
-
 pub loop-ticket-preserved : goal.loop-ticket-preserved
 loop-ticket-preserved c =
     let w = trace_of c.args.cluster.now in

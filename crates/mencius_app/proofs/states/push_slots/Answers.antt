@@ -1,4 +1,4 @@
-use Rattle.mencius_app.proofs.Words.{◌≡◌, ◌++◌, append-nil, arith, string_bytes, subst, sym, instance_count, trace_of, texts_further}
+use Rattle.mencius_app.proofs.Words.{append-nil, string_bytes, sym, trace_of, texts_further}
 use Rattle.mencius_app.specs.States.{slot_line_at, slot_lines}
 use Rattle.mencius_app.proofs.states.push_slots.Goals as goal
 
@@ -11,9 +11,3 @@ unfolding slot_lines
 loop-inst-preserved c =
     texts_further (slot_line_at c.args.cluster.now.members (trace_of c.args.cluster.now) c.args.server)
     c.loop-inst.inst _ _ _ c.loop-inst.invariant c.in_ok-push_slot_at.ensures
-
-pub returns : goal.returns
-returns c =
-    let end : c.loop-inst.inst ≡ instance_count = omega (arith, c.loop-inst-test.false, c.loop-inst.auto.inst-end) in
-    subst (λ n. string_bytes c.loop-inst.text ≡ string_bytes c.args.text.now
-    ++ slot_lines c.args.cluster.now.members (trace_of c.args.cluster.now) c.args.server n) end c.loop-inst.invariant

@@ -1,4 +1,4 @@
-use Rattle.mencius_app.proofs.Words.{◌≡◌, ◌++◌, ap, ◌∙◌, append-nil, arith, string_bytes, sym, flat_map, range_with_len, trace_of, texts_further}
+use Rattle.mencius_app.proofs.Words.{◌≡◌, ◌++◌, ap, ◌∙◌, arith, string_bytes, flat_map, range_with_len, trace_of, texts_further}
 use Rattle.mencius_base.specs.Members.{numbers_below}
 use Rattle.mencius_app.specs.States.{server_state}
 use Rattle.mencius_app.proofs.states.push_states.Goals as goal
@@ -7,9 +7,6 @@ pub loop-server-preserved : goal.loop-server-preserved
 loop-server-preserved c =
     texts_further (server_state c.args.cluster.now.members (trace_of c.args.cluster.now)) c.loop-server.server _ _ _
     c.loop-server.invariant c.in_ok-push_server_state.ensures
-
-pub loop-server-init : goal.loop-server-init
-loop-server-init c = sym (append-nil _)
 
 pub returns : goal.returns
 unfolding numbers_below

@@ -1,10 +1,7 @@
 use Rattle.mencius_app.proofs.Words.{refl, events_text}
 use Rattle.mencius_trace.specs.Effects.{event_lines}
-use Rattle.mencius_app.proofs.texts.EventTexts.{told_more, told_none}
+use Rattle.mencius_app.proofs.texts.EventTexts.{told_more}
 use Rattle.mencius_app.proofs.traces.push_events.Goals as goal
-
-pub loop-event-init : goal.loop-event-init
-loop-event-init c = told_none events_text _ _ _ _ c.into_iter-event-iterator.ensures.into_iter_gives
 
 pub loop-event-preserved : goal.loop-event-preserved
 loop-event-preserved c =
