@@ -25,17 +25,20 @@ returns-in-Ok g c =
       run = run_also begun _ _ (λ options is. ((texts, asks.1, asks.2 ∙ is.0), is.1, is.2, refl)) h.run;
     }
 
-pub returns-in-Err-clause-call : goal.returns-in-Err-clause-call
-returns-in-Err-clause-call g c =
-    let texts : are_texts (bytes_of c.args.arguments.now) ≡ true = cc in
+pub returns-in-Err : goal.returns-in-Err
+returns-in-Err g c =
+    let arguments = bytes_of c.args.arguments.now in
+    let texts : are_texts arguments ≡ true = cc in
     let answer = c.answer_command_line in
     let h = answer.ensures in
-    answered g.W.Sink.state (bytes_of c.args.arguments.now) (kind_of c.in-Err.error) (g.R.Source.state c.args.source.now)
-    c.args.sink.now answer.new.sink answer.result c.in-Err.ensures.faults texts h.done h.plain.0 h.plain.1 h.misused
-    h.fault h.tried
-
-pub returns-in-Err-clause-complaint : goal.returns-in-Err-clause-complaint
-returns-in-Err-clause-complaint g c = λ refused.
-    let told = c.answer_command_line.ensures.complaint refused in
-    let texts : are_texts (bytes_of c.args.arguments.now) ≡ true = cc in
-    (told.0, inr (texts, told.1), told.2)
+    record {
+      call = answered g.W.Sink.state arguments (kind_of c.in-Err.error) (g.R.Source.state c.args.source.now)
+          c.args.sink.now answer.new.sink answer.result c.in-Err.ensures.faults texts h.done h.plain.0 h.plain.1
+          h.misused h.fault h.tried;
+      no_board = h.plain.1;
+      unread = λ _. refl;
+      unwritten = λ refused. (h.misused refused).2;
+      complaint = λ refused. let told = h.complaint refused in (told.0, inr (texts, told.1), told.2);
+      quiet = h.quiet;
+      run = tt;
+    }
