@@ -93,8 +93,14 @@ fn beta_of(servers: u8, beta: u32) -> Option<u32> {
     Some(members.beta())
 }
 
+// Returns the number of these members and their beta, or `None` if they may not exist.
+fn counts_of(servers: u8) -> Option<(u8, u32)> {
+    let members = Members::new(servers)?;
+    Some((members.count(), members.beta()))
+}
+
 #[test]
-fn members_have_limits(rt: HostRuntime) -> Result<(), Fail> {
+fn members_have_limits(rt: HostRuntime) {
     for (servers, beta, want) in [
         (1, 0, Some(0)),
         (7, 4095, Some(4095)),
@@ -106,9 +112,7 @@ fn members_have_limits(rt: HostRuntime) -> Result<(), Fail> {
     ] {
         assert_eq!(rt; beta_of(servers, beta), want, "{servers} servers, {beta}");
     }
-    let three = Members::new(3).ok_or("three servers")?;
-    assert_eq!(rt; (three.count(), three.beta()), (3, 0));
-    Ok(())
+    assert_eq!(rt; counts_of(3), Some((3, 0)));
 }
 
 fn suggestion(inst: u32, ticket: u32) -> Message {
@@ -135,9 +139,13 @@ fn an_outbox_stops_at_its_limit(rt: HostRuntime) -> Result<(), Fail> {
     Ok(())
 }
 
+// Whether a message is for one of three servers.
+fn is_for(message: &Message, server: u8) -> Option<bool> {
+    Some(message.is_for(Members::new(3)?, server))
+}
+
 #[test]
-fn messages_go_where_they_are_addressed(rt: HostRuntime) -> Result<(), Fail> {
-    let three = Members::new(3).ok_or("three servers")?;
+fn messages_go_where_they_are_addressed(rt: HostRuntime) {
     let accepted = Message::Accepted {
         from: 1,
         to: 0,
@@ -149,10 +157,9 @@ fn messages_go_where_they_are_addressed(rt: HostRuntime) -> Result<(), Fail> {
         first: 0,
         stop: 4102,
     };
-    let found = (accepted.is_for(three, 0), accepted.is_for(three, 1));
-    assert_eq!(rt; found, (true, false));
+    let found = [is_for(&accepted, 0), is_for(&accepted, 1)];
+    assert_eq!(rt; found, [Some(true), Some(false)]);
     // Server 3 does not exist.
-    let found = (skip.is_for(three, 0), skip.is_for(three, 3));
-    assert_eq!(rt; found, (true, false));
-    Ok(())
+    let found = [is_for(&skip, 0), is_for(&skip, 3)];
+    assert_eq!(rt; found, [Some(true), Some(false)]);
 }

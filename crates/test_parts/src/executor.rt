@@ -33,8 +33,10 @@ fn assert_row(
 // Executes the rows one after the other, with tickets from 0 on. Then checks the history.
 fn assert_rows(rt: &impl Abort, alloc: Global, rows: &[CommandRow], history: &[u32]) {
     let mut executor = Executor::new(alloc);
-    for (ticket, row) in (0..1000).zip(rows) {
+    let mut ticket: u32 = 0;
+    for row in rows {
         assert_row(rt, alloc, &mut executor, ticket, row);
+        ticket = ticket.saturating_add(1);
     }
     assert_eq!(rt; executor.history(), history);
 }

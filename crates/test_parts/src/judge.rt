@@ -1,6 +1,6 @@
 //! Tests of logs, line by line. They check the meaning of a line, and the first line that breaks a promise.
 
-use mencius_judge::{Judge, Promise, parse_line};
+use mencius_judge::{Judge, Observation, Promise, parse_line};
 use std::alloc::Global;
 use std::process::Abort;
 use std::test::Fail;
@@ -62,13 +62,25 @@ const LOGS: [(&str, &str, Found); 14] = [
     (TWO, "lookup 1 a =x", Some((0, Promise::RightLookup))),
 ];
 
+// Returns the observation of a line, if it has one, or `None` if the line has a fault.
+fn parsed(alloc: Global, line: &str) -> Option<Option<Observation>> {
+    parse_line(alloc, line.as_bytes()).ok()
+}
+
+// Passes a line to a judge. Returns the promise that it breaks, if any.
+fn see_line(alloc: Global, judge: &mut Judge, line: &str) -> Result<Option<Promise>, Fail> {
+    let observation = parsed(alloc, line).flatten().ok_or("no observation")?;
+    match judge.observe(&observation)? {
+        Some(violation) => Ok(Some(violation.promise())),
+        None => Ok(None),
+    }
+}
+
 // Passes the lines to a judge, up to the first line that breaks a promise.
 fn see(alloc: Global, judge: &mut Judge, lines: &str) -> Result<Found, Fail> {
     for (place, line) in lines.split('\n').enumerate() {
-        let said = parse_line(alloc, line.as_bytes()).ok();
-        let observation = said.flatten().ok_or("no observation")?;
-        if let Some(violation) = judge.observe(&observation)? {
-            return Ok(Some((place, violation.promise())));
+        if let Some(promise) = see_line(alloc, judge, line)? {
+            return Ok(Some((place, promise)));
         }
     }
     Ok(None)
@@ -98,8 +110,7 @@ fn worked_logs(rt: HostRuntime) -> Result<(), Fail> {
 
 // Whether a line contains an observation, or `None` if the line has a fault.
 fn says(alloc: Global, line: &str) -> Option<bool> {
-    let said = parse_line(alloc, line.as_bytes()).ok()?;
-    Some(said.is_some())
+    Some(parsed(alloc, line)?.is_some())
 }
 
 const LINES: [(&str, Option<bool>); 12] = [

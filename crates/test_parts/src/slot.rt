@@ -69,6 +69,11 @@ fn assert_slot_learns(rt: &impl Abort, slot: &mut Slot, value: Value, want: bool
     assert_eq!(rt; slot.learn(value), want);
 }
 
+// Checks the value that was learned, if any.
+fn assert_learned(rt: &impl Abort, slot: &Slot, want: Option<Value>) {
+    assert_eq!(rt; slot.learned(), want);
+}
+
 #[test]
 fn an_acceptor_answers(rt: HostRuntime) {
     let four = ballot(&rt, 4);
@@ -88,7 +93,7 @@ fn an_acceptor_answers(rt: HostRuntime) {
     assert_accepts(&rt, &mut slot, Ballot::OWNER, Value::Ticket(1), false);
     assert_slot_learns(&rt, &mut slot, ticket, true);
     assert_slot_learns(&rt, &mut slot, Value::Noop, false);
-    assert_eq!(rt; slot.learned(), Some(ticket));
+    assert_learned(&rt, &slot, Some(ticket));
     assert_answers(&rt, &mut slot, ballot(&rt, 8), Answer::Known(ticket));
     assert_eq!(rt; slot.promised(), seven);
     assert_accepts(&rt, &mut slot, seven, ticket, true);
@@ -121,8 +126,13 @@ fn assert_accept(rt: &impl Abort, slot: &mut Slot, from: u8, ballot: Ballot, wan
 // Checks that all three servers promised the ballot that is tried, and accepted the value that was proposed at it.
 fn assert_has_all(rt: &impl Abort, slot: &Slot, ballot: Ballot, value: Value) {
     assert_eq!(rt; (slot.trying(), slot.proposal()), (ballot, Some(value)));
-    assert_eq!(rt; slot.promises(), [true, true, true].as_slice());
-    assert_eq!(rt; slot.accepts(), [true, true, true].as_slice());
+    assert_are_all(rt, slot.promises());
+    assert_are_all(rt, slot.accepts());
+}
+
+// Checks that a list of the three servers has each of them.
+fn assert_are_all(rt: &impl Abort, servers: &[bool]) {
+    assert_eq!(rt; servers, [true, true, true].as_slice());
 }
 
 #[test]
@@ -153,7 +163,7 @@ fn an_owner_needs_no_first_phase(rt: HostRuntime) {
     slot.suggest(5);
     assert_accept(&rt, &mut slot, 0, Ballot::OWNER, None);
     assert_eq!(rt; slot.acceptance_answer(1, Ballot::OWNER), Some(ticket));
-    assert_eq!(rt; slot.learned(), None);
+    assert_learned(&rt, &slot, None);
     assert_accept(&rt, &mut slot, 1, Ballot::OWNER, Some(ticket));
-    assert_eq!(rt; slot.learned(), Some(ticket));
+    assert_learned(&rt, &slot, Some(ticket));
 }

@@ -18,8 +18,14 @@ fn shown<R: Abort, T: Debug>(rt: &R, alloc: Global, value: &T) -> String {
     format!(in alloc; "{value:?}").expect(rt, "memory")
 }
 
-// The words, the loss, whether a command is left, and the pick after the schedule one_command.
-const PICKS: [([u32; 3], u8, bool, &'static str); 8] = [
+// The words, the loss, whether a command is left, and the pick.
+type PickRow = ([u32; 3], u8, bool, &'static str);
+
+// A pick on a new cluster.
+const ON_NEW: PickRow = ([40, 1, 2], 0, true, "Is(Deliver { message: 0, server: 2 })");
+
+// The picks after the schedule one_command.
+const PICKS: [PickRow; 8] = [
     ([6, 0, 5], 0, true, "Is(Execute { server: 2 })"),
     ([18, 0, 4], 0, true, "Is(Retry { server: 1 })"),
     (
@@ -45,13 +51,8 @@ const PICKS: [([u32; 3], u8, bool, &'static str); 8] = [
     ),
 ];
 
-fn assert_picks<R: Abort>(
-    rt: &R,
-    alloc: Global,
-    cluster: &Cluster,
-    row: ([u32; 3], u8, bool, &'static str),
-) {
-    let (words, loss, left, expected) = row;
+fn assert_picks<R: Abort>(rt: &R, alloc: Global, cluster: &Cluster, row: &PickRow) {
+    let (words, loss, left, expected) = *row;
     let text = shown(rt, alloc, &pick(words, loss, left, cluster));
     assert_eq!(rt; text.as_str(), expected);
 }
@@ -74,10 +75,9 @@ fn take_one_command<R: Abort>(rt: &R, alloc: Global, cluster: &mut Cluster) {
 fn words_pick_by_the_table(rt: HostRuntime) {
     let alloc = rt.alloc();
     let mut cluster = new_cluster(&rt, alloc, 3);
-    let on_new = ([40, 1, 2], 0, true, "Is(Deliver { message: 0, server: 2 })");
-    assert_picks(&rt, alloc, &cluster, on_new);
+    assert_picks(&rt, alloc, &cluster, &ON_NEW);
     take_one_command(&rt, alloc, &mut cluster);
-    for row in PICKS {
+    for row in &PICKS {
         assert_picks(&rt, alloc, &cluster, row);
     }
 }
@@ -100,10 +100,8 @@ fn two_workers<R: Abort>(rt: &R, alloc: Global) -> Plan
 
 // Whether an event submits the command with the wanted number at the wanted server.
 fn is_submission_of(event: &Event, wanted: Option<&(u8, u32)>) -> bool {
-    match (event, wanted) {
-        (Event::Submit { server, command }, Some((at, number))) => {
-            server == at && command.id().number == *number
-        }
+    match event {
+        Event::Submit { server, command } => wanted == Some(&(*server, command.id().number)),
         _ => false,
     }
 }

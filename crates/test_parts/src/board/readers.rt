@@ -130,12 +130,17 @@ fn two_told<R: Wait + Abort>(
     Ok((first, second))
 }
 
+// Decides and shows a number. Returns whether it was shown.
+fn show_number<R: Wait + Abort>(rt: &R, alloc: Global, board: &mut Board, number: u32) -> bool {
+    decide(rt, board, set_number(rt, alloc, number));
+    board.show(rt, alloc).is_ok()
+}
+
 // Owns the board, and decides and shows rising numbers. Returns the board, and whether all numbers were shown.
 fn show_rising<R: Wait + Abort>(rt: &R, alloc: Global, mut board: Board) -> (Board, bool) {
     let mut all_shown = true;
     for number in 2..200 {
-        decide(rt, &mut board, set_number(rt, alloc, number));
-        all_shown = board.show(rt, alloc).is_ok() && all_shown;
+        all_shown = show_number(rt, alloc, &mut board, number) && all_shown;
     }
     (board, all_shown)
 }

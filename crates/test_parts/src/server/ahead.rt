@@ -1,6 +1,9 @@
 //! Tests of suspicions that look ahead of the server's front.
 
-use super::{assert_happens, assert_learns, prepare, submit, suspect, take_skip};
+use super::{
+    assert_front, assert_is, assert_learns, assert_sent, assert_suspects, learn, prepare,
+    submit_all, take_skip,
+};
 use crate::slot::ballot;
 use mencius_base::{Members, Message, Outbox, Refusal, Value};
 use mencius_server::Server;
@@ -11,18 +14,15 @@ use std::process::Abort;
 // Creates server 1 of three servers that look ahead by `beta`.
 fn new_server_with_beta(rt: &impl Abort, alloc: Global, beta: u32) -> Server {
     let members = Members::with_beta(3, beta).expect(rt, "three");
-    Server::new(alloc, members, 1).expect(rt, "memory")
+    let server = Server::new(alloc, members, 1).expect(rt, "memory");
+    assert_is(rt, &server, 1);
+    server
 }
 
 // Teaches no-op at an instance of server 0.
 fn learn_noop(rt: &impl Abort, alloc: Global, server: &mut Server, inst: u32) {
-    let message = Message::Learn {
-        from: 2,
-        inst,
-        value: Value::Noop,
-    };
     let mut out = Outbox::new(alloc, 0);
-    assert_learns(rt, server, &message, &mut out, 1);
+    assert_learns(rt, server, &learn(2, inst, Value::Noop), &mut out, 1);
 }
 
 // Checks that a suspicion of server 0 sends Prepares at exactly these instances, or is refused if the list is empty.
@@ -30,10 +30,15 @@ fn assert_reaches(rt: &impl Abort, alloc: Global, server: &mut Server, insts: &[
     let answer = if insts.is_empty() {
         Err(Refusal::NothingToRevoke)
     } else {
-        Ok(0)
+        Ok(())
     };
     let mut out = Outbox::new(alloc, 100);
-    assert_happens(rt, server, suspect(1, 0), &mut out, answer);
+    assert_suspects(rt, server, 0, &mut out, answer);
+    assert_prepares(rt, &out, insts);
+}
+
+// Checks that the messages are Prepares at exactly these instances.
+fn assert_prepares(rt: &impl Abort, out: &Outbox, insts: &[u32]) {
     let mut sent = out.messages().iter();
     for wanted in insts {
         match sent.next() {
@@ -61,21 +66,24 @@ const REACHES: [(u32, &[u32], &[u32]); 8] = [
 #[test]
 fn suspicions_look_ahead(rt: HostRuntime) {
     let alloc = rt.alloc();
-    for (beta, learned, insts) in REACHES {
-        let mut one = new_server_with_beta(&rt, alloc, beta);
-        move_on(&rt, alloc, &mut one, &[], learned);
-        assert_reaches(&rt, alloc, &mut one, insts);
-        // The slots that it keeps from the first suspicion do not change the second one.
-        assert_reaches(&rt, alloc, &mut one, insts);
+    for row in &REACHES {
+        assert_reach(&rt, alloc, row);
     }
+}
+
+fn assert_reach(rt: &impl Abort, alloc: Global, row: &(u32, &[u32], &[u32])) {
+    let (beta, learned, insts) = *row;
+    let mut one = new_server_with_beta(rt, alloc, beta);
+    move_on(rt, alloc, &mut one, &[], learned);
+    assert_reaches(rt, alloc, &mut one, insts);
+    // The slots that it keeps from the first suspicion do not change the second one.
+    assert_reaches(rt, alloc, &mut one, insts);
 }
 
 // Submits tickets at server 1, which moves its front. Then teaches it no-op at instances of server 0.
 fn move_on(rt: &impl Abort, alloc: Global, server: &mut Server, tickets: &[u32], learned: &[u32]) {
     let mut out = Outbox::new(alloc, 100);
-    for ticket in tickets {
-        assert_happens(rt, server, submit(1, *ticket), &mut out, Ok(0));
-    }
+    submit_all(rt, server, &mut out, tickets);
     for inst in learned {
         learn_noop(rt, alloc, server, *inst);
     }
@@ -98,24 +106,16 @@ const MOVES: [Move; 5] = [
 fn suspicions_look_ahead_of_the_front(rt: HostRuntime) {
     let alloc = rt.alloc();
     let mut one = new_server_with_beta(&rt, alloc, 2);
-    for (tickets, learned, front, insts) in MOVES {
-        move_on(&rt, alloc, &mut one, tickets, learned);
-        assert_eq!(rt; one.front(), front);
-        assert_reaches(&rt, alloc, &mut one, insts);
+    for row in &MOVES {
+        take_move(&rt, alloc, &mut one, row);
     }
 }
 
-// Checks the result of a suspicion of server 0, with room for `room` messages. Returns the outbox.
-fn assert_suspects(
-    rt: &impl Abort,
-    alloc: Global,
-    server: &mut Server,
-    room: u32,
-    answer: Result<u32, Refusal>,
-) -> Outbox {
-    let mut out = Outbox::new(alloc, room);
-    assert_happens(rt, server, suspect(1, 0), &mut out, answer);
-    out
+fn take_move(rt: &impl Abort, alloc: Global, server: &mut Server, row: &Move) {
+    let (tickets, learned, front, insts) = *row;
+    move_on(rt, alloc, server, tickets, learned);
+    assert_front(rt, server, front);
+    assert_reaches(rt, alloc, server, insts);
 }
 
 // A suspicion ends at the last instance, 4,095, however far a server looks ahead. It sends all messages or none.
@@ -123,12 +123,11 @@ fn assert_suspects(
 fn suspicions_end_at_the_last_instance(rt: HostRuntime) {
     let alloc = rt.alloc();
     let mut one = new_server_with_beta(&rt, alloc, 4095);
-    let full = Err(Refusal::MessagesFull);
-    drop(assert_suspects(&rt, alloc, &mut one, 1365, full));
-    let out = assert_suspects(&rt, alloc, &mut one, 1366, Ok(0));
-    assert_eq!(rt; out.len(), 1366);
-    let last = out.messages().last().copied();
-    assert_eq!(rt; last, Some(prepare(1, 4095, ballot(&rt, 4))));
+    let mut few = Outbox::new(alloc, 1365);
+    assert_suspects(&rt, &mut one, 0, &mut few, Err(Refusal::MessagesFull));
+    let mut out = Outbox::new(alloc, 1366);
+    assert_suspects(&rt, &mut one, 0, &mut out, Ok(()));
+    assert_sent(&rt, &out, 1365, &[prepare(1, 4095, ballot(&rt, 4))]);
 }
 
 #[test]

@@ -1,8 +1,10 @@
 //! Tests of worked schedules, as tables of events and lists of the messages sent.
 
-use super::{accepted, assert_happens, assert_sent, new_server, prepare, server_of, skip, suggest};
+use super::{
+    accepted, assert_is, assert_sent, hear, learn, new_server, prepare, skip, suggest, suspect,
+};
 use crate::slot::ballot;
-use mencius_base::{Ballot, Entry, Event, Message, Outbox, Value, Vote};
+use mencius_base::{Ballot, Event, Message, Outbox, Refusal, Value, Vote};
 use mencius_format::parse_event;
 use mencius_server::Server;
 use std::alloc::Global;
@@ -32,40 +34,47 @@ fn propose(from: u8, ballot: Ballot, value: Value) -> Message {
     }
 }
 
-fn learn(from: u8, inst: u32, value: Value) -> Message {
-    Message::Learn { from, inst, value }
+fn event_of(rt: &impl Abort, alloc: Global, text: &str) -> Event {
+    parse_event(alloc, text).expect(rt, "an event")
 }
 
-// Returns an event as an entry with a ticket. A schedule has at most one command here, so the ticket is 0.
-fn entry_of(event: &Event) -> Entry {
+fn member<'a>(rt: &impl Abort, servers: &'a mut [Server], id: u8) -> &'a mut Server {
+    let server = servers.get_mut(usize::from(id)).expect(rt, "a server");
+    assert_is(rt, server, id);
+    server
+}
+
+// Delivers the message with this number to a server.
+fn deliver(
+    rt: &impl Abort,
+    server: &mut Server,
+    number: u32,
+    out: &mut Outbox,
+) -> Result<u32, Refusal> {
+    let sent = out.messages().get(number as usize).copied();
+    hear(rt, server, &sent.expect(rt, "it was sent"), out)
+}
+
+// Makes the call of a server for an event. A schedule has at most one command here, so its ticket is 0. Returns the
+// number of instances that the server learns.
+fn happen(
+    rt: &impl Abort,
+    servers: &mut [Server],
+    event: &Event,
+    out: &mut Outbox,
+) -> Result<u32, Refusal> {
     match event {
-        Event::Submit { server, .. } => Entry::Submit {
-            server: *server,
-            ticket: 0,
-        },
-        Event::Deliver { message, server } => Entry::Deliver {
-            server: *server,
-            message: *message,
-        },
-        Event::Lose { message, server } => Entry::Lose {
-            server: *server,
-            message: *message,
-        },
-        Event::Suspect { server, suspected } => Entry::Suspect {
-            server: *server,
-            suspected: *suspected,
-        },
-        Event::Retry { server } => Entry::Retry { server: *server },
-        Event::Execute { server } => Entry::Execute { server: *server },
+        Event::Submit { server, .. } => member(rt, servers, *server).submit(0, out)?,
+        Event::Deliver { message, server } => {
+            return deliver(rt, member(rt, servers, *server), *message, out);
+        }
+        Event::Suspect { server, suspected } => {
+            suspect(rt, member(rt, servers, *server), *suspected, out)?;
+        }
+        Event::Retry { server } => member(rt, servers, *server).retry(out)?,
+        Event::Lose { .. } | Event::Execute { .. } => panic!(rt; "no call of a server: {event:?}"),
     }
-}
-
-fn new_servers(rt: &impl Abort, alloc: Global) -> Vec<Server> {
-    let mut servers = Vec::new(alloc);
-    for id in 0..3u8 {
-        servers.push(new_server(rt, alloc, id)).expect(rt, "memory");
-    }
-    servers
+    Ok(0)
 }
 
 // Takes three servers through the rows. Checks all messages that were sent, by number, and the fronts at the end.
@@ -77,17 +86,24 @@ fn follow(
     fronts: [u32; 3],
 ) {
     let mut out = Outbox::new(alloc, 100);
-    let mut servers = new_servers(rt, alloc);
+    let mut servers = [
+        new_server(rt, alloc, 0),
+        new_server(rt, alloc, 1),
+        new_server(rt, alloc, 2),
+    ];
     for row in rows {
-        take_row(rt, alloc, servers.as_mut_slice(), row, &mut out);
+        take_row(rt, alloc, &mut servers, row, &mut out);
     }
     assert_sent(rt, &out, 0, messages);
-    for (server, front) in servers.iter().zip(fronts) {
-        assert_eq!(rt; server.front(), front);
-    }
+    assert_fronts(rt, &servers, fronts);
 }
 
-// Takes the event of a row. Checks the numbers of messages that it sends and of instances that it teaches.
+fn assert_fronts(rt: &impl Abort, servers: &[Server; 3], fronts: [u32; 3]) {
+    let [zero, one, two] = servers;
+    assert_eq!(rt; [zero.front(), one.front(), two.front()], fronts);
+}
+
+// Takes the event of a row. Checks the numbers of instances that it teaches and of messages that it sends.
 fn take_row(
     rt: &impl Abort,
     alloc: Global,
@@ -96,12 +112,10 @@ fn take_row(
     out: &mut Outbox,
 ) {
     let (text, sends, learns) = *row;
-    let event = entry_of(&parse_event(alloc, text).expect(rt, "an event"));
-    let id = usize::from(server_of(event));
-    let server = servers.get_mut(id).expect(rt, "a server");
     let before = out.len();
-    assert_happens(rt, server, event, out, Ok(learns));
-    assert_eq!(rt; out.len(), before.saturating_add(sends), "{text}");
+    let answer = happen(rt, servers, &event_of(rt, alloc, text), out);
+    let wanted = (Ok(learns), before.saturating_add(sends));
+    assert_eq!(rt; (answer, out.len()), wanted, "{text}");
 }
 
 const SKIP_BEFORE_A_SUGGESTION: [EventRow; 7] = [
