@@ -8,7 +8,7 @@ use test_support::plain_map::has_bound;
 /// The number of accepted events, in all and of each kind except executions. It also counts the deliveries that
 /// repeated an earlier delivery, the suspicions that looked ahead, and the commands in the longest histories.
 /// Compare-and-set commands with a reply are counted by whether they found the text that they expected.
-#[derive(Clone, Copy, Debug)]
+#[derive(Clone, Copy)]
 pub struct EventCounts {
     events: u64,
     submissions: u64,
@@ -130,32 +130,43 @@ impl EventCounts {
     /// Returns the counts in words.
     pub fn text(&self, alloc: Global) -> Result<String, AllocError> {
         let mut text = String::new(alloc);
+        self.push_messages(&mut text)?;
+        self.push_commands(&mut text)?;
+        Ok(text)
+    }
+
+    // Adds the events, and those of them that are about messages.
+    fn push_messages(&self, text: &mut String) -> Result<(), AllocError> {
         let EventCounts {
             events,
             submissions,
             deliveries,
             repeats,
             losses,
+            ..
+        } = *self;
+        write!(text, "{events} events: {submissions} submissions, ")?;
+        write!(
+            text,
+            "{deliveries} deliveries, {repeats} of them repeats, {losses} losses, "
+        )
+    }
+
+    // Adds the suspicions and retries, and what became of the commands.
+    fn push_commands(&self, text: &mut String) -> Result<(), AllocError> {
+        let EventCounts {
             suspicions,
             ahead,
             retries,
             executed,
             bound,
             unbound,
+            ..
         } = *self;
-        write!(text, "{events} events: {submissions} submissions, ")?;
-        write!(
-            text,
-            "{deliveries} deliveries, {repeats} of them repeats, {losses} losses, "
-        )?;
+        let compared = bound.saturating_add(unbound);
         write!(text, "{suspicions} suspicions, {ahead} of them ahead, ")?;
         write!(text, "{retries} retries; {executed} commands executed; ")?;
-        write!(
-            text,
-            "{bound} of {} compared and set",
-            bound.saturating_add(unbound)
-        )?;
-        Ok(text)
+        write!(text, "{bound} of {compared} compared and set")
     }
 }
 

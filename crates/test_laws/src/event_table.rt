@@ -10,7 +10,7 @@ use test_support::walk::Stop;
 
 /// How often three kinds of events are drawn. Each number is the number of rows, out of 64, that draw a submission, a
 /// suspicion or a loss.
-#[derive(Clone, Copy, Debug)]
+#[derive(Clone, Copy)]
 pub struct Mix {
     submissions: u32,
     suspicions: u32,

@@ -7,10 +7,15 @@ use test_support::walk::{Stop, Walk};
 /// Steps a new cluster through the events of a schedule, and returns the walk.
 pub fn follow(alloc: Global, scenario: Scenario<Events>) -> Result<Walk, Stop> {
     let mut walk = Walk::new(alloc, scenario.members, 1)?;
-    for event in scenario.course {
+    take_all(&mut walk, scenario.course)?;
+    Ok(walk)
+}
+
+fn take_all(walk: &mut Walk, events: Events) -> Result<(), Stop> {
+    for event in events {
         walk.take(event)?;
     }
-    Ok(walk)
+    Ok(())
 }
 
 /// Delivers each message that was sent so far, from the last to the first, twice over. Then each server executes all

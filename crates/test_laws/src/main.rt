@@ -55,7 +55,7 @@ use test_support::same::first_difference_below;
 use test_support::walk::{Stop, Walk};
 
 // The schedules to draw, and the pace of the checks.
-#[derive(Clone, Copy, Debug)]
+#[derive(Clone, Copy)]
 struct Draw {
     seed: u64,
     count: u32,
@@ -166,10 +166,13 @@ fn attack_with(alloc: Global, dice: &mut Dice, walk: &mut Walk) -> Result<(), St
     Ok(())
 }
 
+fn write_report(alloc: Global, cluster: &Cluster, text: &mut Vec<u8>) -> Result<(), AppFault> {
+    report(alloc, cluster, &mut Std::new(text))
+}
+
 fn report_of(alloc: Global, cluster: &Cluster) -> Result<Vec<u8>, Stop> {
     let mut text = Vec::new(alloc);
-    let mut sink = Std::new(&mut text);
-    match report(alloc, cluster, &mut sink) {
+    match write_report(alloc, cluster, &mut text) {
         Ok(()) => Ok(text),
         Err(AppFault::NoMemory) => Err(Stop::from(NoMemory)),
         Err(_) => Err(Stop::Broken("a report is not written")),
