@@ -1,7 +1,7 @@
 //! Tests of the events that words pick, and of the order of a worker's commands.
 ghost use Rattle.std.specs.Prelude.{◌≡◌, ◌<◌};
 
-use super::fixtures::{new_cluster, set_number, set_x};
+use super::fixtures::{new_cluster, plan_over, set_number, set_x};
 use mencius_base::Event;
 use mencius_board::{Chooser, Pick, Plan, pick};
 use mencius_cluster::Cluster;
@@ -95,7 +95,7 @@ fn two_workers<R: Abort>(rt: &R, alloc: Global) -> Plan
         }
         lists.push(list).expect(rt, "memory");
     }
-    Plan::new(2, 7, 200, 4, lists).expect(rt, "a plan")
+    plan_over(rt, 2, 7, 200, lists)
 }
 
 // Whether an event submits the command with the wanted number at the wanted server.

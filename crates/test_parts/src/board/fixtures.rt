@@ -3,7 +3,7 @@ ghost use Rattle.mencius_base.specs.Limits.{most_readers};
 ghost use Rattle.std.specs.Prelude.{◌≡◌, ◌<◌, ◌≤◌};
 
 use mencius_base::{Command, CommandId, Event, Key, Members, Op, Text};
-use mencius_board::Board;
+use mencius_board::{Board, Plan};
 use mencius_cluster::Cluster;
 use std::alloc::Global;
 use std::panic::Expect;
@@ -28,6 +28,19 @@ pub fn set_number<R: Abort>(rt: &R, alloc: Global, number: u32) -> Command {
 pub fn set_x<R: Abort>(rt: &R, alloc: Global) -> Command {
     let text = String::from_str(alloc, "x").expect(rt, "memory");
     set_a(rt, alloc, 0, text)
+}
+
+// Returns a plan with a loss of 4. It is the only place of these tests that names each field of a plan.
+pub fn plan_over<R: Abort>(
+    rt: &R,
+    workers: u8,
+    seed: u64,
+    turns: u32,
+    lists: Vec<Vec<Command>>,
+) -> Plan
+    ensures { result.workers ≡ workers }
+{
+    Plan::new(workers, seed, turns, 4, lists).expect(rt, "a plan")
 }
 
 pub fn new_cluster<R: Abort>(rt: &R, alloc: Global, servers: u8) -> Cluster {

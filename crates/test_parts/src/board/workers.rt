@@ -1,5 +1,5 @@
 //! Tests of workers. They run side by side, and a turn waits for the lock.
-use super::fixtures::{new_board, set_number};
+use super::fixtures::{new_board, plan_over, set_number};
 use mencius_board::{Board, Gate, Plan, lend, run_workers};
 use std::alloc::Global;
 use std::panic::Expect;
@@ -17,7 +17,7 @@ fn plan_of<R: Abort>(rt: &R, alloc: Global, workers: u8, seed: u64) -> Plan {
             .expect(rt, "memory");
         lists.push(list).expect(rt, "memory");
     }
-    Plan::new(workers, seed, 1, 4, lists).expect(rt, "a plan")
+    plan_over(rt, workers, seed, 1, lists)
 }
 
 // A gate that makes each of two workers set its own flag, and then look for the other's flag at most `LOOKS` times.
