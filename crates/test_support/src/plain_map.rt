@@ -44,6 +44,28 @@ pub fn operation(number: u32, key: Key, held: Text, text: Text) -> Op {
     }
 }
 
+/// Returns the key of an operation.
+pub fn key_of(op: &Op) -> &str {
+    match op {
+        Op::Set { key, .. } | Op::Get { key } | Op::Del { key } | Op::Cas { key, .. } => {
+            key.as_str()
+        }
+    }
+}
+
+/// Adds the text of an operation: its word, its key and its texts.
+pub fn push_op(line: &mut String, op: &Op) -> Result<(), AllocError> {
+    match op {
+        Op::Set { key, text } => write!(line, "set {} {}", key.as_str(), text.as_str()),
+        Op::Get { key } => write!(line, "get {}", key.as_str()),
+        Op::Del { key } => write!(line, "del {}", key.as_str()),
+        Op::Cas { key, held, text } => {
+            let (key, held, text) = (key.as_str(), held.as_str(), text.as_str());
+            write!(line, "cas {key} {held} {text}")
+        }
+    }
+}
+
 // Binds a key to a text. Returns the text that the key held before.
 fn set(
     texts: &mut BTreeMap<String, String>,

@@ -3,7 +3,7 @@
 
 use crate::courses::{new_board, new_cluster, plan_of};
 use mencius_app::{AppFault, Open, Std, report, run};
-use mencius_base::{Command, CommandId, Entry, Op};
+use mencius_base::{Command, CommandId, Entry};
 use mencius_board::{Board, Chooser, Gate, Plan, lend, run_workers, worker_turn};
 use mencius_cluster::Cluster;
 use std::alloc::{AllocError, Global};
@@ -12,6 +12,7 @@ use std::process::Abort;
 use std::sync::atomic::{AtomicU64, Ordering};
 use std::sync::{Mutex, Wait};
 use std::thread::Threads;
+use test_support::plain_map::push_op;
 
 // Three servers and one worker.
 const ONE_WORKER: &str = "{\"version\":1,\"servers\":3,\"workers\":1,\"seed\":1,\"turns\":2000,\
@@ -74,19 +75,11 @@ fn report_of<R: Abort>(rt: &R, alloc: Global, cluster: &Cluster) -> Vec<u8> {
     taken
 }
 
-// Adds the text of a command, with its identity, its operation, its key and its texts.
+// Adds the text of a command, with its identity and its operation.
 fn push_command(line: &mut String, command: &Command) -> Result<(), AllocError> {
     let CommandId { client, number } = command.id();
     write!(line, "{client}.{number} ")?;
-    match command.op() {
-        Op::Set { key, text } => write!(line, "set {} {}", key.as_str(), text.as_str()),
-        Op::Get { key } => write!(line, "get {}", key.as_str()),
-        Op::Del { key } => write!(line, "del {}", key.as_str()),
-        Op::Cas { key, held, text } => {
-            let (key, held, text) = (key.as_str(), held.as_str(), text.as_str());
-            write!(line, "cas {key} {held} {text}")
-        }
-    }
+    push_op(line, command.op())
 }
 
 // Adds the text of a cluster's event, with its word, and its numbers or its command.

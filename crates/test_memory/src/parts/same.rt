@@ -2,8 +2,9 @@
 
 use super::Parts;
 use map_exec::Executor;
-use mencius_base::{Command, INSTANCES, Op, Outbox};
+use mencius_base::{Command, INSTANCES, Outbox};
 use mencius_server::Server;
+use test_support::plain_map::key_of;
 
 /// Compares the results of all calls of two parts. Returns the name of the first call whose results differ, or `None`
 /// if all results are the same.
@@ -67,14 +68,6 @@ fn of_executor(first: &Executor, second: &Executor, commands: &[Command]) -> Opt
         }
     }
     None
-}
-
-fn key_of(op: &Op) -> &str {
-    match op {
-        Op::Set { key, .. } | Op::Get { key } | Op::Del { key } | Op::Cas { key, .. } => {
-            key.as_str()
-        }
-    }
 }
 
 fn of_messages(first: &Outbox, second: &Outbox) -> Option<&'static str> {
