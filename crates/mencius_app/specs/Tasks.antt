@@ -35,8 +35,8 @@ pub record AsksLittle (s : Streams) : Type 0 where
 -- ---- a task
 
 -- a task, described for the reader's bytes, if these are known. `IsText` says which texts the task may write, and
--- whether a text is clean (no event was refused, and no promise is broken). `IsBadInput` says which faults these bytes
--- have
+-- whether a text is clean (a replay refused no event, or a judgement found no broken promise). `IsBadInput` says which
+-- faults these bytes have
 pub record Task : Type 1 where
   pub IsText : Option (List ℕ) → List ℕ → Bool → Type 0
   pub IsBadInput : Option (List ℕ) → IoFault → Type 0
