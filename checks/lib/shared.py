@@ -17,7 +17,6 @@ NAME = "checks/" + os.path.basename(sys.argv[0])
 # The paths of the built programs, relative to the top of the repository.
 PROGRAM = "crates/mencius/out/mencius"
 LAWS = "crates/test_laws/out/test_laws"
-MEMORY = "crates/test_memory/out/test_memory"
 
 # The most seconds for a call of a program.
 SECONDS = 120

@@ -2,37 +2,31 @@
 //! board, gives the News to a reader, and looks up the key `a` with this reader. If memory runs out in one of these
 //! calls, it checks that nothing changed, including the reader's results. Then it makes the call again.
 //!
-//! `checks/memory` makes each growth of this program's memory fail in turn. The program must then print the same as if
-//! no growth had failed. It prints the report and the result of the last lookup.
+//! `checks/memory` makes each growth of the program's memory fail in turn. The program must then print the same as if no
+//! growth had failed. It prints the report and the result of the last lookup.
 //!
 //! The scenario may also be a scenario of a run with two workers. If beta is 0, `run_workers` runs them, otherwise
 //! `run_plan`. The program then prints one line. The line has the name of their fault, or `Ok`, and the number of turns
 //! that each worker began.
 //!
-//! With the argument `parts`, the program steps single servers and executors through the scenario instead of a board.
-//! It makes their calls again in the same way. No cluster makes room before these calls. The program prints a line for
-//! each server, and the number of messages that were sent.
+//! For `parts`, the program steps single servers and executors through the scenario instead of a board. It makes their
+//! calls again in the same way. No cluster makes room before these calls. The program prints a line for each server, and
+//! the number of messages that were sent.
 //!
 //! The exit status is one of these:
 //!
 //! - 0 if nothing changed. If a call was made again, standard error has its name.
 //! - 6 if any other call failed, for example because memory ran out in it.
 //! - 9 if something changed. Standard error names it.
-#![tactic(auto)]
-
-mod parts;
-mod watched;
-mod workers;
 
 use crate::parts::step_parts;
 use crate::watched::{Call, Stop, Watched};
 use crate::workers::run_counted;
-use mencius_app::{Std, arguments_of, read_plan, report};
+use mencius_app::{read_plan, report};
 use mencius_cluster::Cluster;
 use mencius_input::{Events, Scenario, read_scenario};
-use mencius_io::{IoFault, Sink, read_all, write_all};
+use mencius_io::{IoFault, Sink, write_all};
 use std::alloc::Global;
-use std::process::ExitCode;
 use std::sync::Wait;
 use std::thread::Threads;
 
@@ -117,14 +111,6 @@ fn perform<R: Threads + Wait + Sync, W: Sink>(
     }
 }
 
-// Whether the first argument selects single servers and executors.
-fn asks_for_parts(arguments: &[Vec<u8>]) -> bool {
-    match arguments.first() {
-        Some(word) => word.as_slice() == b"parts".as_slice(),
-        None => false,
-    }
-}
-
 // Returns the exit status. Writes the name of the repeated call, or of the change, to standard error.
 fn status_of<W: Sink>(done: Result<Option<Call>, Stop>, errors: &mut W) -> u8 {
     match done {
@@ -141,21 +127,23 @@ fn status_of<W: Sink>(done: Result<Option<Call>, Stop>, errors: &mut W) -> u8 {
     }
 }
 
-fn main(rt: HostRuntime) -> ExitCode {
-    let alloc = rt.alloc();
-    let mut source = Std::new(rt.stdin());
-    let mut sink = Std::new(rt.stdout());
-    let mut errors = Std::new(rt.stderr());
-    let Ok(arguments) = arguments_of(&rt, alloc) else {
-        return ExitCode::from(6);
-    };
-    let Ok(bytes) = read_all(alloc, &mut source) else {
-        return ExitCode::from(6);
-    };
-    let done = if asks_for_parts(arguments.as_slice()) {
-        step_parts(alloc, bytes.as_slice(), &mut sink)
-    } else {
-        perform(&rt, alloc, bytes.as_slice(), &mut sink)
-    };
-    ExitCode::from(status_of(done, &mut errors))
+/// Steps a board through the scenario on standard input, or runs workers on it. Returns the exit status.
+pub fn try_board<R: Threads + Wait + Sync, W: Sink, E: Sink>(
+    rt: &R,
+    alloc: Global,
+    bytes: &[u8],
+    sink: &mut W,
+    errors: &mut E,
+) -> u8 {
+    status_of(perform(rt, alloc, bytes, sink), errors)
+}
+
+/// Steps single servers and executors through the scenario on standard input. Returns the exit status.
+pub fn try_parts<W: Sink, E: Sink>(
+    alloc: Global,
+    bytes: &[u8],
+    sink: &mut W,
+    errors: &mut E,
+) -> u8 {
+    status_of(step_parts(alloc, bytes, sink), errors)
 }
