@@ -1,5 +1,6 @@
 //! Tests of values from outside. They check the operations that may make a command, the numbers that may make members,
 //! and an outbox at its limit.
+use crate::same::assert_same;
 use mencius_base::{
     BadCommand, Ballot, Command, CommandId, Key, Members, Message, Op, Outbox, Refusal, Text,
 };
@@ -35,7 +36,7 @@ fn commands_have_limits(rt: HostRuntime) -> Result<(), Fail> {
         ("", long, Some(BadCommand::KeyLength)),
         ("a", long, Some(BadCommand::TextLength)),
     ] {
-        assert_eq!(rt; fault_of(alloc, key, text)?, fault);
+        assert_same(&rt, &fault_of(alloc, key, text)?, &fault, key);
     }
     Ok(())
 }
@@ -82,7 +83,7 @@ fn both_texts_have_limits(rt: HostRuntime) -> Result<(), Fail> {
         ("a", long, "", Some(BadCommand::TextLength)),
         ("a", "", long, Some(BadCommand::TextLength)),
     ] {
-        assert_eq!(rt; fault_of_cas(alloc, key, held, text)?, fault);
+        assert_same(&rt, &fault_of_cas(alloc, key, held, text)?, &fault, key);
     }
     Ok(())
 }
@@ -110,9 +111,14 @@ fn members_have_limits(rt: HostRuntime) {
         // Without its upper bits, this number is 2.
         (3, 65_538, None),
     ] {
-        assert_eq!(rt; beta_of(servers, beta), want, "{servers} servers, {beta}");
+        assert_same(
+            &rt,
+            &(servers, beta, beta_of(servers, beta)),
+            &(servers, beta, want),
+            "",
+        );
     }
-    assert_eq!(rt; counts_of(3), Some((3, 0)));
+    assert_same(&rt, &counts_of(3), &Some((3, 0)), "");
 }
 
 fn suggestion(inst: u32, ticket: u32) -> Message {
@@ -129,13 +135,10 @@ fn an_outbox_stops_at_its_limit(rt: HostRuntime) -> Result<(), Fail> {
     outbox.reserve(2)?;
     outbox.push(suggestion(0, 0));
     outbox.push(suggestion(3, 1));
-    assert_eq!(rt; outbox.reserve(1), Err(Refusal::MessagesFull));
+    assert_same(&rt, &outbox.reserve(1), &Err(Refusal::MessagesFull), "");
     let counts = (outbox.len(), outbox.limit(), outbox.room());
-    assert_eq!(rt; counts, (2, 2, 0));
-    assert_eq!(rt;
-        outbox.messages(),
-        [suggestion(0, 0), suggestion(3, 1)].as_slice()
-    );
+    assert_same(&rt, &counts, &(2, 2, 0), "");
+    assert!(rt; outbox.messages() == [suggestion(0, 0), suggestion(3, 1)].as_slice());
     Ok(())
 }
 
@@ -158,8 +161,8 @@ fn messages_go_where_they_are_addressed(rt: HostRuntime) {
         stop: 4102,
     };
     let found = [is_for(&accepted, 0), is_for(&accepted, 1)];
-    assert_eq!(rt; found, [Some(true), Some(false)]);
+    assert_same(&rt, &found, &[Some(true), Some(false)], "");
     // Server 3 does not exist.
     let found = [is_for(&skip, 0), is_for(&skip, 3)];
-    assert_eq!(rt; found, [Some(true), Some(false)]);
+    assert_same(&rt, &found, &[Some(true), Some(false)], "");
 }

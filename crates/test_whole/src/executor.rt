@@ -1,5 +1,6 @@
 //! Tests of the replies to commands at one key, one after the other.
 
+use crate::same::assert_same;
 use map_exec::{Executor, Reply};
 use mencius_format::parse_command;
 use std::alloc::Global;
@@ -23,11 +24,11 @@ fn assert_row(
     ticket: u32,
     row: &CommandRow,
 ) {
-    let (command, answer, held) = *row;
-    let command = parse_command(alloc, command).expect(rt, "a command");
+    let (text, answer, held) = *row;
+    let command = parse_command(alloc, text).expect(rt, "a command");
     let reply = executor.execute(&command, ticket).expect(rt, "memory");
-    assert_eq!(rt; text_of(&reply), answer, "the answer of {ticket}");
-    assert_eq!(rt; executor.get("a"), held, "what is held after {ticket}");
+    let found = (ticket, text_of(&reply), executor.get("a"));
+    assert_same(rt, &found, &(ticket, answer, held), text);
 }
 
 // Executes the rows one after the other, with tickets from 0 on. Then checks the history.
@@ -38,7 +39,7 @@ fn assert_rows(rt: &impl Abort, alloc: Global, rows: &[CommandRow], history: &[u
         assert_row(rt, alloc, &mut executor, ticket, row);
         ticket = ticket.saturating_add(1);
     }
-    assert_eq!(rt; executor.history(), history);
+    assert!(rt; executor.history() == history);
 }
 
 const EMPTY_TEXT: [CommandRow; 4] = [

@@ -28,6 +28,8 @@ mod rotation;
 #[cfg(test)]
 mod runs;
 #[cfg(test)]
+mod same;
+#[cfg(test)]
 mod server;
 #[cfg(test)]
 mod slot;

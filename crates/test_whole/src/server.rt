@@ -6,6 +6,7 @@ ghost use Rattle.std.specs.Prelude.{◌<◌};
 mod ahead;
 mod schedules;
 
+use crate::same::assert_same;
 use crate::slot::ballot;
 use mencius_base::{Ballot, Members, Message, Outbox, Refusal, Value};
 use mencius_server::Server;
@@ -71,14 +72,18 @@ fn new_server(rt: &impl Abort, alloc: Global, id: u8) -> Server
 
 // Checks the number of a server.
 fn assert_is(rt: &impl Abort, server: &Server, id: u8) {
-    assert_eq!(rt; server.id(), id);
+    assert!(rt; server.id() == id);
 }
 
 // Submits tickets, which the server must accept.
 fn submit_all(rt: &impl Abort, server: &mut Server, out: &mut Outbox, tickets: &[u32]) {
     for ticket in tickets {
-        assert_eq!(rt; server.submit(*ticket, out), Ok(()), "{ticket}");
+        submit(rt, server, out, *ticket);
     }
+}
+
+fn submit(rt: &impl Abort, server: &mut Server, out: &mut Outbox, ticket: u32) {
+    assert_same(rt, &server.submit(ticket, out), &Ok(()), "");
 }
 
 // Checks the result of a suspicion.
@@ -89,7 +94,7 @@ fn assert_suspects(
     out: &mut Outbox,
     answer: Result<(), Refusal>,
 ) {
-    assert_eq!(rt; suspect(rt, server, suspected, out), answer, "{suspected}");
+    assert_same(rt, &suspect(rt, server, suspected, out), &answer, "");
 }
 
 // Checks that a message teaches `count` instances.
@@ -100,33 +105,33 @@ fn assert_learns(
     out: &mut Outbox,
     count: u32,
 ) {
-    assert_eq!(rt; hear(rt, server, message, out), Ok(count));
+    assert_same(rt, &hear(rt, server, message, out), &Ok(count), "");
 }
 
 // Checks the messages on the outbox from place `before` on.
 fn assert_sent(rt: &impl Abort, out: &Outbox, before: usize, sends: &[Message]) {
-    assert_eq!(rt; out.messages().get(before..), Some(sends));
+    assert_same(rt, &out.messages().get(before..), &Some(sends), "");
 }
 
 fn assert_front(rt: &impl Abort, server: &Server, front: u32) {
-    assert_eq!(rt; server.front(), front);
+    assert_same(rt, &server.front(), &front, "");
 }
 
 // Checks the value that a server learned at an instance.
 fn assert_learned(rt: &impl Abort, server: &Server, inst: u32, value: Option<Value>) {
-    assert_eq!(rt; server.learned(inst), value, "at {inst}");
+    assert_same(rt, &(inst, server.learned(inst)), &(inst, value), "");
 }
 
 // Checks the numbers of slots and intervals that a server keeps.
 fn assert_stored(rt: &impl Abort, server: &Server, counts: (u32, u32)) {
-    assert_eq!(rt; server.kept(), counts);
+    assert_same(rt, &server.kept(), &counts, "");
 }
 
 // Checks that no message is sent if the outbox has no room for both messages that a suggestion calls for.
 fn assert_lacks_room(rt: &impl Abort, server: &mut Server, message: &Message, out: &mut Outbox) {
     let answer = hear(rt, server, message, out);
     let found = (answer, server.front(), out.len());
-    assert_eq!(rt; found, (Err(Refusal::MessagesFull), 0, 0));
+    assert_same(rt, &found, &(Err(Refusal::MessagesFull), 0, 0), "");
 }
 
 #[test]
@@ -204,7 +209,7 @@ fn lose_instance(
     waiting: Option<u32>,
 ) {
     let answer = hear(rt, server, &learn(1, inst, Value::Noop), out);
-    assert_eq!(rt; (answer, server.waiting()), (Ok(1), waiting));
+    assert_same(rt, &(answer, server.waiting()), &(Ok(1), waiting), "");
 }
 
 // Checks the result of a retry, and the ticket that then waits, if any.
@@ -216,7 +221,7 @@ fn assert_retries(
     waiting: Option<u32>,
 ) {
     let found = server.retry(out);
-    assert_eq!(rt; (found, server.waiting()), (answer, waiting));
+    assert_same(rt, &(found, server.waiting()), &(answer, waiting), "");
 }
 
 #[test]

@@ -2,6 +2,7 @@
 
 ghost use Rattle.std.specs.Prelude.{◌≡◌, ◌<◌};
 
+use crate::same::assert_same;
 use coord_paxos::{Answer, Slot};
 use mencius_base::{Ballot, Members, Value, Vote};
 use std::panic::Expect;
@@ -40,7 +41,7 @@ fn ballots_are_numbered(rt: HostRuntime) {
         (1, 3, None),
     ] {
         let number = number_of(members, round, server);
-        assert_eq!(rt; number, want, "round {round} of server {server}");
+        assert_same(&rt, &(round, server, number), &(round, server, want), "");
     }
 }
 
@@ -51,27 +52,27 @@ fn ballots_have_leaders(rt: HostRuntime) {
         Ballot::OWNER.leader(members, 5),
         ballot(&rt, 7).leader(members, 5),
     );
-    assert_eq!(rt; leaders, (2, 1));
+    assert_same(&rt, &leaders, &(2, 1), "");
 }
 
 // Checks the acceptor's reply to a Prepare.
 fn assert_answers(rt: &impl Abort, slot: &mut Slot, ballot: Ballot, want: Answer) {
-    assert_eq!(rt; slot.prepare(ballot), want);
+    assert_same(rt, &slot.prepare(ballot), &want, "");
 }
 
 // Checks whether a value is accepted.
 fn assert_accepts(rt: &impl Abort, slot: &mut Slot, ballot: Ballot, value: Value, want: bool) {
-    assert_eq!(rt; slot.accept(ballot, value), want);
+    assert!(rt; slot.accept(ballot, value) == want);
 }
 
 // Checks whether a value is the first one that is learned.
 fn assert_slot_learns(rt: &impl Abort, slot: &mut Slot, value: Value, want: bool) {
-    assert_eq!(rt; slot.learn(value), want);
+    assert!(rt; slot.learn(value) == want);
 }
 
 // Checks the value that was learned, if any.
 fn assert_learned(rt: &impl Abort, slot: &Slot, want: Option<Value>) {
-    assert_eq!(rt; slot.learned(), want);
+    assert_same(rt, &slot.learned(), &want, "");
 }
 
 #[test]
@@ -88,14 +89,14 @@ fn an_acceptor_answers(rt: HostRuntime) {
     assert_answers(&rt, &mut slot, five, Answer::Promise(None));
     assert_accepts(&rt, &mut slot, four, Value::Noop, false);
     assert_accepts(&rt, &mut slot, five, ticket, true);
-    assert_eq!(rt; slot.vote(), accepted);
+    assert_same(&rt, &slot.vote(), &accepted, "");
     assert_answers(&rt, &mut slot, seven, Answer::Promise(accepted));
     assert_accepts(&rt, &mut slot, Ballot::OWNER, Value::Ticket(1), false);
     assert_slot_learns(&rt, &mut slot, ticket, true);
     assert_slot_learns(&rt, &mut slot, Value::Noop, false);
     assert_learned(&rt, &slot, Some(ticket));
     assert_answers(&rt, &mut slot, ballot(&rt, 8), Answer::Known(ticket));
-    assert_eq!(rt; slot.promised(), seven);
+    assert_same(&rt, &slot.promised(), &seven, "");
     assert_accepts(&rt, &mut slot, seven, ticket, true);
 }
 
@@ -112,7 +113,7 @@ fn assert_promise(
     requires member { from < slot.old.members.count }
     ensures { slot.new.members ≡ slot.old.members }
 {
-    assert_eq!(rt; slot.add_promise(from, ballot, vote), want);
+    assert_same(rt, &slot.add_promise(from, ballot, vote), &want, "");
 }
 
 // Counts an acceptance of a ballot, and checks the value that is then learned, if any.
@@ -120,19 +121,20 @@ fn assert_accept(rt: &impl Abort, slot: &mut Slot, from: u8, ballot: Ballot, wan
     requires { from < slot.old.members.count }
     ensures { slot.new.members ≡ slot.old.members }
 {
-    assert_eq!(rt; slot.add_accept(from, ballot), want);
+    assert_same(rt, &slot.add_accept(from, ballot), &want, "");
 }
 
 // Checks that all three servers promised the ballot that is tried, and accepted the value that was proposed at it.
 fn assert_has_all(rt: &impl Abort, slot: &Slot, ballot: Ballot, value: Value) {
-    assert_eq!(rt; (slot.trying(), slot.proposal()), (ballot, Some(value)));
+    let found = (slot.trying(), slot.proposal());
+    assert_same(rt, &found, &(ballot, Some(value)), "");
     assert_are_all(rt, slot.promises());
     assert_are_all(rt, slot.accepts());
 }
 
 // Checks that a list of the three servers has each of them.
 fn assert_are_all(rt: &impl Abort, servers: &[bool]) {
-    assert_eq!(rt; servers, [true, true, true].as_slice());
+    assert!(rt; servers == [true, true, true].as_slice());
 }
 
 #[test]
@@ -162,7 +164,8 @@ fn an_owner_needs_no_first_phase(rt: HostRuntime) {
 
     slot.suggest(5);
     assert_accept(&rt, &mut slot, 0, Ballot::OWNER, None);
-    assert_eq!(rt; slot.acceptance_answer(1, Ballot::OWNER), Some(ticket));
+    let answer = slot.acceptance_answer(1, Ballot::OWNER);
+    assert_same(&rt, &answer, &Some(ticket), "");
     assert_learned(&rt, &slot, None);
     assert_accept(&rt, &mut slot, 1, Ballot::OWNER, Some(ticket));
     assert_learned(&rt, &slot, Some(ticket));

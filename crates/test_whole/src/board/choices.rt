@@ -2,6 +2,7 @@
 ghost use Rattle.std.specs.Prelude.{◌≡◌, ◌<◌};
 
 use super::fixtures::{new_cluster, plan_over, set_number, set_x};
+use crate::same::assert_same;
 use mencius_base::Event;
 use mencius_board::{Chooser, Pick, Plan, pick};
 use mencius_cluster::Cluster;
@@ -54,7 +55,7 @@ const PICKS: [PickRow; 8] = [
 fn assert_picks<R: Abort>(rt: &R, alloc: Global, cluster: &Cluster, row: &PickRow) {
     let (words, loss, left, expected) = *row;
     let text = shown(rt, alloc, &pick(words, loss, left, cluster));
-    assert_eq!(rt; text.as_str(), expected);
+    assert_same(rt, &text.as_str(), &expected, "");
 }
 
 fn step_cluster<R: Abort>(rt: &R, cluster: &mut Cluster, event: Event) {

@@ -2,6 +2,7 @@
 ghost use Rattle.mencius_base.specs.Limits.{most_readers};
 ghost use Rattle.std.specs.Prelude.{◌≡◌, ◌<◌, ◌≤◌};
 
+use crate::same::assert_same;
 use mencius_base::{Command, CommandId, Event, Key, Members, Op, Text};
 use mencius_board::{Board, Plan};
 use mencius_cluster::Cluster;
@@ -72,4 +73,9 @@ pub fn decide<R: Abort>(rt: &R, board: &mut Board, command: Command)
     let message = step_board(rt, board, Event::Deliver { message, server });
     step_board(rt, board, Event::Deliver { message, server });
     step_board(rt, board, Event::Execute { server });
+}
+
+// Checks the numbers of a cluster's commands and events.
+pub fn assert_counts<R: Abort>(rt: &R, cluster: &Cluster, counts: (u32, u32)) {
+    assert_same(rt, &(cluster.commands(), cluster.events()), &counts, "");
 }

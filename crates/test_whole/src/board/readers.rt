@@ -1,7 +1,8 @@
 //! Tests of readers. They find the list that was shown, with or without News, and also while another thread steps.
 ghost use Rattle.std.specs.Prelude.{◌≡◌};
 
-use super::fixtures::{decide, new_board, set_number, set_x};
+use super::fixtures::{assert_counts, decide, new_board, set_number, set_x};
+use crate::same::assert_same;
 use core::mem::replace_with;
 use mencius_board::{Board, BoardFault, News, Reader};
 use std::alloc::Global;
@@ -50,9 +51,9 @@ fn assert_lacks<R: Abort>(rt: &R, alloc: Global, reader: &mut Reader, key: &str)
 fn assert_told<R: Abort>(rt: &R, alloc: Global, reader: &mut Reader, news: News)
     requires { news.book ≡ reader.old.book }
 {
-    assert_eq!(rt; (news.count(), news.commands().len()), (1, 1));
+    assert_same(rt, &(news.count(), news.commands().len()), &(1, 1), "");
     let (before, found, after) = learn_and_look(alloc, reader, news).expect(rt, "a lookup");
-    assert_eq!(rt; (before, after), (0, 1));
+    assert_same(rt, &(before, after), &(0, 1), "");
     assert!(rt; is_text(&found, "x"));
 }
 
@@ -77,7 +78,7 @@ fn told_and_untold<R: Wait + Abort>(
 // Checks that a reader without News finds the only command.
 fn assert_untold<R: Abort>(rt: &R, alloc: Global, reader: &mut Reader) {
     assert_finds_x(rt, alloc, reader);
-    assert_eq!(rt; reader.count(), 1);
+    assert_same(rt, &reader.count(), &1, "");
     assert_lacks(rt, alloc, reader, "b");
 }
 
@@ -96,7 +97,7 @@ fn two_readers_find_what_is_shown(rt: HostRuntime) -> Result<(), Fail> {
     let answer = told_and_untold(&rt, alloc, &mut board);
     let cluster = board.end(&rt);
     answer?;
-    assert_eq!(rt; (cluster.commands(), cluster.events()), (1, 4));
+    assert_counts(&rt, &cluster, (1, 4));
     Ok(())
 }
 
@@ -184,5 +185,6 @@ fn readers_beside_a_thread_that_owns_the_board(rt: HostRuntime) {
     );
     let cluster = board.end(&rt);
     assert!(rt; all_shown && found.0 && found.1);
-    assert_eq!(rt; cluster.commands(), 199);
+    // Each command has a submission, two deliveries and an execution.
+    assert_counts(&rt, &cluster, (199, 796));
 }

@@ -1,5 +1,6 @@
 //! Tests of workers. They run side by side, and a turn waits for the lock.
-use super::fixtures::{new_board, plan_over, set_number};
+use super::fixtures::{assert_counts, new_board, plan_over, set_number};
+use crate::same::assert_same;
 use mencius_board::{Board, Gate, Plan, lend, run_workers};
 use std::alloc::Global;
 use std::panic::Expect;
@@ -77,7 +78,7 @@ fn two_workers_meet(rt: HostRuntime) {
     let gate = Meeting::new();
     let board = Mutex::new(new_board(&rt, alloc, 3, 1));
     let choosers = run_workers(&rt, alloc, &board, &plan, &gate).expect(&rt, "a run");
-    assert_eq!(rt; choosers.len(), 2);
+    assert_same(&rt, &choosers.len(), &2, "");
     drop(board.into_inner().end(&rt));
     assert!(rt; gate.are_met());
 }
@@ -124,5 +125,5 @@ fn a_turn_waits_for_the_lock(rt: HostRuntime) {
     );
     let cluster = board.into_inner().end(&rt);
     assert!(rt; kept && ran);
-    assert_eq!(rt; (cluster.commands(), cluster.events()), (1, 1));
+    assert_counts(&rt, &cluster, (1, 1));
 }

@@ -39,14 +39,18 @@ fn assert_reaches(rt: &impl Abort, alloc: Global, server: &mut Server, insts: &[
 
 // Checks that the messages are Prepares at exactly these instances.
 fn assert_prepares(rt: &impl Abort, out: &Outbox, insts: &[u32]) {
-    let mut sent = out.messages().iter();
-    for wanted in insts {
-        match sent.next() {
-            Some(Message::Prepare { inst, .. }) => assert_eq!(rt; inst, wanted),
-            _ => panic!(rt; "no Prepare at {wanted}"),
-        }
+    assert!(rt; out.messages().len() == insts.len());
+    for (message, inst) in out.messages().iter().zip(insts) {
+        assert!(rt; is_prepare(message, *inst), "{message:?}");
     }
-    assert!(rt; sent.next().is_none());
+}
+
+// Whether a message is a Prepare at this instance.
+fn is_prepare(message: &Message, wanted: u32) -> bool {
+    match message {
+        Message::Prepare { inst, .. } => *inst == wanted,
+        _ => false,
+    }
 }
 
 // Each row has a beta, the instances of server 0 that server 1 learned, and the instances that its suspicion covers.

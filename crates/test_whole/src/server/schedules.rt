@@ -3,6 +3,7 @@
 use super::{
     accepted, assert_is, assert_sent, hear, learn, new_server, prepare, skip, suggest, suspect,
 };
+use crate::same::assert_same;
 use crate::slot::ballot;
 use mencius_base::{Ballot, Event, Message, Outbox, Refusal, Value, Vote};
 use mencius_format::parse_event;
@@ -100,7 +101,7 @@ fn follow(
 
 fn assert_fronts(rt: &impl Abort, servers: &[Server; 3], fronts: [u32; 3]) {
     let [zero, one, two] = servers;
-    assert_eq!(rt; [zero.front(), one.front(), two.front()], fronts);
+    assert_same(rt, &[zero.front(), one.front(), two.front()], &fronts, "");
 }
 
 // Takes the event of a row. Checks the numbers of instances that it teaches and of messages that it sends.
@@ -115,7 +116,7 @@ fn take_row(
     let before = out.len();
     let answer = happen(rt, servers, &event_of(rt, alloc, text), out);
     let wanted = (Ok(learns), before.saturating_add(sends));
-    assert_eq!(rt; (answer, out.len()), wanted, "{text}");
+    assert_same(rt, &(answer, out.len()), &wanted, text);
 }
 
 const SKIP_BEFORE_A_SUGGESTION: [EventRow; 7] = [
