@@ -8,6 +8,7 @@ use crate::courses::{
     COMPARED_AND_SET, GET_AT_ANOTHER_SERVER, ONE_COMMAND, cluster_after, new_board, new_cluster,
     scenario_of,
 };
+use crate::same::assert_same;
 use mencius_base::{Ballot, Event, Members, Message, Outbox, Refusal};
 use mencius_board::readings::{Reading, look_up_shown, look_up_within};
 use mencius_board::{Board, BoardFault, Reader};
@@ -73,9 +74,9 @@ fn assert_noted<R: Abort>(rt: &R, alloc: Global, row: Row) {
     let (first, server, other, earlier, later) = row;
     let (mut cluster, rest) = begun(rt, alloc, first);
     let noted = noted(rt, alloc, &mut cluster, (server, other), rest);
-    assert!(rt; noted.earlier.as_slice() == earlier, "after {first}");
-    assert!(rt; noted.later.as_slice() == later, "after {first}");
-    assert_eq!(rt; cluster.events(), 14);
+    let found = (first, noted.earlier.as_slice(), noted.later.as_slice());
+    assert_same(rt, &found, &(first, earlier, later), "");
+    assert_same(rt, &cluster.events(), &14, "");
     assert_histories(rt, &cluster);
 }
 
@@ -90,8 +91,12 @@ fn assert_no_server<R: Abort>(rt: &R, alloc: Global, server: u8, other: u8) {
     let (mut cluster, events) = begun(rt, alloc, 0);
     let answer = note_across(alloc, &mut cluster, server, events, other);
     let refusal = answer.expect_err(rt, "no such server");
-    assert_eq!(rt; refusal, Refusal::BadServer);
-    assert_eq!(rt; cluster.events(), 0);
+    assert_same(
+        rt,
+        &(refusal, cluster.events()),
+        &(Refusal::BadServer, 0),
+        "",
+    );
 }
 
 #[test]
@@ -146,8 +151,12 @@ fn first_delivery(rt: HostRuntime) {
 
 // Checks the text that a reading found, and the number of commands in its list.
 fn assert_reading<R: Abort>(rt: &R, reading: &Reading, count: u32, text: Option<&str>) {
-    assert_eq!(rt; reading.count, count);
-    assert_eq!(rt; reading.text.as_deref(), text);
+    assert_same(
+        rt,
+        &(reading.count, reading.text.as_deref()),
+        &(count, text),
+        "",
+    );
 }
 
 fn look_up<R: Wait>(rt: &R, alloc: Global, board: &mut Board) -> Result<Reading, BoardFault> {
@@ -162,7 +171,7 @@ fn a_told_reader_finds_what_was_executed(rt: HostRuntime) {
     let answer = look_up(&rt, alloc, &mut board);
     let cluster = board.end(&rt);
     assert_reading(&rt, &answer.expect(&rt, "a reading"), 1, Some("x"));
-    assert_eq!(rt; cluster.events(), 6);
+    assert_same(&rt, &cluster.events(), &6, "");
 }
 
 // Returns a board that accepted each event of a schedule.
@@ -194,8 +203,12 @@ fn a_told_reader_finds_the_empty_text(rt: HostRuntime) {
     let answer = learn_and_look_up(&rt, alloc, &mut board);
     let cluster = board.end(&rt);
     let found = answer.expect(&rt, "a lookup");
-    assert_eq!(rt; found.as_deref(), Some(""));
-    assert_eq!(rt; cluster.events(), 20);
+    assert_same(
+        &rt,
+        &(found.as_deref(), cluster.events()),
+        &(Some(""), 20),
+        "",
+    );
 }
 
 fn look_within(alloc: Global, board: &mut Board, reader: &mut Reader) -> Result<Reading, BoardFault>

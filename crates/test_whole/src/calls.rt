@@ -3,6 +3,7 @@
 use crate::courses::{
     GET_AT_ANOTHER_SERVER, REVOKED_AND_SUGGESTED_AGAIN, cluster_after, new_cluster, scenario_of,
 };
+use crate::same::assert_same;
 use mencius_base::{Command, CommandId, Entry, Event, Members, Message, Value};
 use mencius_cluster::{Answered, Cluster, Effect};
 use mencius_format::parse_command;
@@ -49,7 +50,7 @@ fn each_event_has_its_effect(rt: HostRuntime) {
     let alloc = rt.alloc();
     let scenario = scenario_of(&rt, alloc, GET_AT_ANOTHER_SERVER);
     let mut cluster = new_cluster(&rt, alloc, scenario.members);
-    assert_eq!(rt; scenario.course.len(), EFFECTS.len());
+    assert_same(&rt, &scenario.course.len(), &EFFECTS.len(), "");
     let mut first: u32 = 0;
     for (event, (sent, learned)) in scenario.course.into_iter().zip(EFFECTS) {
         let effect = Effect {
@@ -130,11 +131,16 @@ fn assert_servers<R: Abort>(rt: &R, cluster: &Cluster) {
         cluster.servers(),
         cluster.longest(),
     );
-    assert_eq!(rt; found, (3, 3, 1));
+    assert_same(rt, &found, &(3, 3, 1), "");
     for (server, wanted) in (0..3).zip(ANSWERS) {
-        assert_eq!(rt; answers_of(cluster, server), Some(wanted));
+        assert_same(
+            rt,
+            &(server, answers_of(cluster, server)),
+            &(server, Some(wanted)),
+            "",
+        );
     }
-    assert_eq!(rt; cluster.front(3), None);
+    assert_same(rt, &cluster.front(3), &None, "");
 }
 
 // Returns the ticket that a server executed last.
@@ -143,9 +149,9 @@ fn last_of(cluster: &Cluster, server: u8) -> Option<u32> {
 }
 
 fn assert_learned<R: Abort>(rt: &R, cluster: &Cluster) {
-    assert_eq!(rt; last_of(cluster, 1), Some(1));
+    assert_same(rt, &last_of(cluster, 1), &Some(1), "");
     let found = (cluster.learned(1, 1), cluster.learned(2, 1));
-    assert_eq!(rt; found, (Some(Value::Ticket(1)), None));
+    assert_same(rt, &found, &(Some(Value::Ticket(1)), None), "");
 }
 
 #[test]
@@ -160,7 +166,7 @@ fn servers_answer(rt: HostRuntime) {
 fn assert_sends_ahead<R: Abort>(rt: &R, alloc: Global, beta: u32, sent: u32) {
     let members = Members::with_beta(3, beta).expect(rt, "three servers");
     let mut cluster = new_cluster(rt, alloc, members);
-    assert_eq!(rt; cluster.members().beta(), beta);
+    assert_same(rt, &cluster.members().beta(), &beta, "");
     let suspicion = Event::Suspect {
         server: 1,
         suspected: 0,
@@ -171,7 +177,7 @@ fn assert_sends_ahead<R: Abort>(rt: &R, alloc: Global, beta: u32, sent: u32) {
         learned: 0,
     };
     assert_effect(rt, &mut cluster, suspicion, effect);
-    assert_eq!(rt; cluster.members().beta(), beta);
+    assert_same(rt, &cluster.members().beta(), &beta, "");
 }
 
 #[test]
@@ -183,7 +189,7 @@ fn members_keep_their_beta(rt: HostRuntime) {
 
 fn assert_counts<R: Abort>(rt: &R, cluster: &Cluster) {
     let found = (cluster.messages(), cluster.events(), cluster.commands());
-    assert_eq!(rt; found, (8, 14, 2));
+    assert_same(rt, &found, &(8, 14, 2), "");
 }
 
 // Checks that message 4 is the suggestion of the second command.
@@ -204,7 +210,7 @@ fn assert_submitted<R: Abort>(rt: &R, cluster: &Cluster) {
     };
     assert!(rt; cluster.journal().first() == Some(&submission));
     let client = cluster.command(1).map(|command| command.id().client);
-    assert_eq!(rt; client, Some(2));
+    assert_same(rt, &client, &Some(2), "");
 }
 
 #[test]
@@ -218,9 +224,7 @@ fn lists_answer(rt: HostRuntime) {
 // Checks the replies of clients 1 and 2 after a schedule, in words.
 fn assert_replies<R: Abort>(rt: &R, alloc: Global, schedule: &str, wanted: [&str; 2]) {
     let cluster = cluster_after(rt, alloc, schedule);
-    let [first, second] = wanted;
-    assert_eq!(rt; shown(&cluster, 1), first);
-    assert_eq!(rt; shown(&cluster, 2), second);
+    assert_same(rt, &[shown(&cluster, 1), shown(&cluster, 2)], &wanted, "");
 }
 
 #[test]

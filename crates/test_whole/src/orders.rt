@@ -3,6 +3,7 @@
 
 use crate::courses::{new_board, new_cluster, plan_of};
 use crate::runs::{TWO_WORKERS, is_printed, printed, run_two, take};
+use crate::same::assert_same;
 use mencius_board::{Board, Chooser, Gate, Plan, Reader, lend};
 use mencius_cluster::Cluster;
 use std::alloc::Global;
@@ -226,7 +227,7 @@ fn looks_beside<R: Abort + Threads + Wait + Sync>(rt: &R, alloc: Global, counts:
 fn a_reader_beside_workers_finds_what_is_shown(rt: HostRuntime) {
     let alloc = rt.alloc();
     let counts = outcome_of(&rt, alloc, [0, 1]).counts;
-    assert_eq!(rt; counts.len(), TURNS);
+    assert_same(&rt, &counts.len(), &TURNS, "");
     assert!(rt; counts.last().is_some_and(|&count| 0 < count));
     let looks = looks_beside(&rt, alloc, counts.as_slice());
     assert!(rt; looks.are_right && looks.lookups == TURNS);

@@ -3,6 +3,7 @@
 ghost use Rattle.std.specs.Prelude.{◌≡◌};
 
 use crate::courses::{new_cluster, plan_of};
+use crate::same::assert_same;
 use mencius_base::{Command, CommandId};
 use mencius_board::{Board, BoardFault, Chooser, Plan, Reader, worker_turn};
 use mencius_cluster::{Answered, Cluster};
@@ -180,5 +181,5 @@ fn found_by_cas(cluster: &Cluster) -> Option<&str> {
 #[test]
 fn told_reader_beside_workers_that_compare_and_set(rt: HostRuntime) {
     let cluster = assert_finds(&rt, rt.alloc(), COMPARED);
-    assert_eq!(rt; found_by_cas(&cluster), Some("x"));
+    assert_same(&rt, &found_by_cas(&cluster), &Some("x"), "");
 }

@@ -2,6 +2,7 @@
 //! the gate.
 
 use crate::courses::{new_board, new_cluster, plan_of};
+use crate::same::assert_same;
 use mencius_app::{AppFault, Open, Std, report, run};
 use mencius_base::{Command, CommandId, Entry};
 use mencius_board::{Board, Chooser, Gate, Plan, lend, run_workers, worker_turn};
@@ -40,14 +41,14 @@ pub fn printed<R: Abort + Threads + Wait + Sync, G: Gate + Sync>(
 ) -> String {
     let mut written = Vec::new(alloc);
     let answer = ran(rt, alloc, scenario, gate, &mut written);
-    assert_eq!(rt; answer, Ok(()));
+    assert_same(rt, &answer, &Ok(()), "");
     String::from_utf8(written).expect(rt, "a text")
 }
 
 /// Takes a turn of a worker, which must succeed.
 pub fn take<R: Abort>(rt: &R, board: &mut Board, chooser: &mut Chooser) {
     let answer = worker_turn(board, chooser);
-    assert_eq!(rt; answer, Ok(()));
+    assert_same(rt, &answer, &Ok(()), "");
 }
 
 // Takes all turns of a run's only worker on a board.
@@ -71,7 +72,7 @@ fn cluster_of_turns<R: Abort + Wait>(rt: &R, alloc: Global, scenario: &str) -> C
 fn report_of<R: Abort>(rt: &R, alloc: Global, cluster: &Cluster) -> Vec<u8> {
     let mut taken = Vec::new(alloc);
     let answer = report(alloc, cluster, &mut Std::new(&mut taken));
-    assert_eq!(rt; answer, Ok(()));
+    assert_same(rt, &answer, &Ok(()), "");
     taken
 }
 
@@ -145,7 +146,7 @@ fn cluster_of_run<R: Abort + Threads + Wait + Sync>(
     let cluster = new_cluster(rt, alloc, scenario.members);
     let board = Mutex::new(new_board(rt, alloc, cluster));
     let choosers = run_workers(rt, alloc, &board, &scenario.course, &Open).expect(rt, "a run");
-    assert_eq!(rt; choosers.len(), 1);
+    assert_same(rt, &choosers.len(), &1, "");
     board.into_inner().end(rt)
 }
 
@@ -185,12 +186,12 @@ pub fn run_two<R: Abort + Threads + Wait + Sync, G: Gate + Sync>(
     gate: &G,
 ) {
     let choosers = run_workers(rt, alloc, board, plan, gate).expect(rt, "a run");
-    assert_eq!(rt; choosers.len(), 2);
+    assert_same(rt, &choosers.len(), &2, "");
 }
 
 fn assert_passed<R: Abort>(rt: &R, gate: &Counting) {
     for count in &gate.passed {
-        assert_eq!(rt; count.load(Ordering::SeqCst), 2000);
+        assert_same(rt, &count.load(Ordering::SeqCst), &2000, "");
     }
 }
 

@@ -2,6 +2,7 @@
 //! at a time.
 
 use crate::courses::cluster_after;
+use crate::same::assert_same;
 use mencius_app::{
     AppFault, Failure, Open, Sink, Source, Std, check, draw, judge, replay, report, run, trace,
 };
@@ -89,7 +90,7 @@ impl Write for Page<'_> {
 }
 
 // The call under test.
-#[derive(Clone, Copy, Debug)]
+#[derive(Clone, Copy)]
 enum Call {
     Replay,
     Trace,
@@ -99,6 +100,18 @@ enum Call {
     Run,
     // The report of the cluster that `SCENARIO` makes. This call reads no input.
     Report,
+}
+
+fn name_of(call: Call) -> &'static str {
+    match call {
+        Call::Replay => "replay",
+        Call::Trace => "trace",
+        Call::Check => "check",
+        Call::Judge => "judge",
+        Call::Draw => "draw",
+        Call::Run => "run",
+        Call::Report => "report",
+    }
 }
 
 const SCENARIO: &str = "{\"version\":1,\"servers\":1,\"events\":[\"submit 0 1.0 set a x\",\
@@ -247,10 +260,9 @@ fn assert_reads_at<R: Abort + Threads + Wait + Sync>(
         trouble_at: 0,
     };
     let made = make_call(rt, alloc, call, reader(input, 3, 0, Some(at)), paper);
-    let failed = Err(AppFault::ReadFailed);
-    assert_eq!(rt; made.answer, failed, "{call:?} at {at}");
-    assert_eq!(rt; made.failures, (1, 0));
-    assert!(rt; made.taken.is_empty());
+    let found = (at, made.answer, made.failures, made.taken.len());
+    let wanted = (at, Err(AppFault::ReadFailed), (1, 0), 0);
+    assert_same(rt, &found, &wanted, name_of(call));
 }
 
 // Checks a call whose reader fails, for each call of the reader in turn.
@@ -287,13 +299,10 @@ fn assert_answers<R: Abort + Threads + Wait + Sync>(
         trouble_at: 0,
     };
     let made = make_call(rt, alloc, call, reader(input, 3, reads, None), paper);
-    assert_eq!(rt; made.answer, want, "{call:?} at {reads} and {writes}");
-    assert_eq!(rt; made.failures, (reads as u64, writes as u64));
     let whole = if want == Ok(()) { text } else { "" };
-    assert!(rt;
-        made.taken.as_slice() == whole.as_bytes(),
-        "{call:?} at {reads} and {writes}"
-    );
+    let found = (made.answer, made.failures, made.taken.as_slice());
+    let wanted = (want, (reads as u64, writes as u64), whole.as_bytes());
+    assert_same(rt, &found, &wanted, name_of(call));
 }
 
 // How often the reader and the writer are interrupted at first, and the result of the call.
@@ -356,11 +365,10 @@ fn assert_stops_at<R: Abort + Threads + Wait + Sync>(
         trouble_at: at,
     };
     let made = make_call(rt, alloc, call, reader(input, 100, 0, None), paper);
+    let found = (at, made.answer, made.failures, Some(made.taken.as_slice()));
     let failed = Err(AppFault::WriteFailed);
-    assert_eq!(rt; made.answer, failed, "{call:?} at {at}");
-    assert_eq!(rt; made.failures, (0, 1));
-    let written = text.as_bytes().get(..at);
-    assert!(rt; written == Some(made.taken.as_slice()), "{call:?} at {at}");
+    let wanted = (at, failed, (0, 1), text.as_bytes().get(..at));
+    assert_same(rt, &found, &wanted, name_of(call));
 }
 
 #[test]
