@@ -3,10 +3,10 @@
 use crate::dice::Dice;
 use crate::mail::Mail;
 use crate::operations::draw_op;
+use crate::walk::Stop;
 use mencius_base::{Command, CommandId, Event, Message, Vote};
 use mencius_cluster::Cluster;
 use std::alloc::{AllocError, Global};
-use test_support::walk::Stop;
 
 /// How often three kinds of events are drawn. Each number is the number of rows, out of 64, that draw a submission, a
 /// suspicion or a loss.

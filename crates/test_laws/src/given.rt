@@ -1,8 +1,8 @@
 //! Runs a given schedule, and delivers all its messages again.
 
+use crate::walk::{Stop, Walk};
 use mencius_input::{Events, Scenario};
 use std::alloc::Global;
-use test_support::walk::{Stop, Walk};
 
 /// Steps a new cluster through the events of a schedule, and returns the walk.
 pub fn follow(alloc: Global, scenario: Scenario<Events>) -> Result<Walk, Stop> {

@@ -29,21 +29,21 @@
 //! - No schedule executed a command.
 //! - All compare-and-set commands found the text that they expected, or none did.
 
+use crate::again::again;
 use crate::counts::EventCounts;
 use crate::dice::Dice;
 use crate::event_table::{Mix, draw_event};
 use crate::given::{follow, send_again};
 use crate::mail::Mail;
+use crate::observed::reach;
+use crate::same::first_difference_below;
+use crate::walk::{Stop, Walk};
 use mencius_app::{AppFault, report};
 use mencius_base::{Event, GREATEST_BETA, INSTANCES, Members, NoMemory};
 use mencius_cluster::Cluster;
 use mencius_input::{Events, Scenario, read_scenario};
 use mencius_io::{IoFault, Sink, Std, write_all};
 use std::alloc::{AllocError, Global};
-use test_support::again::again;
-use test_support::observed::reach;
-use test_support::same::first_difference_below;
-use test_support::walk::{Stop, Walk};
 
 // The schedules to draw, and the pace of the checks.
 #[derive(Clone, Copy)]

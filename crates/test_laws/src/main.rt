@@ -6,6 +6,11 @@
 //! - With `parts`, it tests single servers and executors whose calls run out of memory (see `memory`).
 //! - With `both`, the first line of standard input is for the laws, and the rest is for the board.
 //!
+//! `walk` steps a cluster through events, and `observed` checks the laws on the results of the cluster's calls after each
+//! event. `again` builds a cluster again from the journal of another cluster. `same` compares the results of the calls of
+//! two clusters. These checks are tested, not proved. They take no facts from the contracts, although the contracts
+//! already state the laws.
+//!
 //! The exit status is one of these:
 //!
 //! - 0 if nothing is wrong.
@@ -14,6 +19,7 @@
 //! - 9 if something is wrong. Standard error then names it.
 #![tactic(auto)]
 
+mod again;
 mod counts;
 mod dice;
 mod event_table;
@@ -21,8 +27,11 @@ mod given;
 mod laws;
 mod mail;
 mod memory;
+mod observed;
 mod operations;
 mod parts;
+mod same;
+mod walk;
 mod watched;
 mod workers;
 

@@ -2,6 +2,7 @@
 
 ghost use Rattle.std.specs.Prelude.{◌≡◌, IfOk};
 
+use crate::same::first_difference;
 use mencius_base::{Event, Refusal};
 use mencius_board::{Board, BoardFault, News, Reader};
 use mencius_cluster::Cluster;
@@ -9,7 +10,6 @@ use mencius_input::{Scenario, read_scenario};
 use std::alloc::Global;
 use std::marker::Model;
 use std::sync::Wait;
-use test_support::same::first_difference;
 
 /// Why a course ends early.
 #[derive(Clone, Copy, Debug, PartialEq, Eq)]

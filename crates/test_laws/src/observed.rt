@@ -1,10 +1,10 @@
 //! Checks the laws on the results of a running cluster's calls.
 
-use crate::plain_map::change;
 use mencius_base::{Command, Entry, INSTANCES, Message, Value, Vote};
 use mencius_cluster::{Answered, Cluster};
 use std::alloc::{AllocError, Global};
 use std::collections::BTreeMap;
+use test_support::plain_map::change;
 
 /// The results of one cluster's calls that were seen so far. Also the results of a map that executes the longest
 /// history alone.
