@@ -27,8 +27,8 @@ fn assert_row(
     let (text, answer, held) = *row;
     let command = parse_command(alloc, text).expect(rt, "a command");
     let reply = executor.execute(&command, ticket).expect(rt, "memory");
-    let found = (ticket, text_of(&reply), executor.get("a"));
-    assert_same(rt, &found, &(ticket, answer, held), text);
+    assert_same(rt, &text_of(&reply), &answer, text);
+    assert_same(rt, &executor.get("a"), &held, text);
 }
 
 // Executes the rows one after the other, with tickets from 0 on. Then checks the history.
