@@ -2,13 +2,20 @@
 
 ghost use Rattle.std.specs.Prelude.{◌≡◌, ◌<◌, ◌++◌, IfOk, OnOk, flat_map, length, string_bytes, take};
 ghost use Rattle.std.specs.Str.{chars};
-ghost use Rattle.mencius_input.specs.Shown.{is_hidden, most_shown, shown_char, shown_number, shown_text};
+ghost use Rattle.mencius_input.specs.Shown.{is_among, is_hidden, most_shown, shown_char, shown_number, shown_text};
 
 use mencius_base::NoMemory;
 use std::alloc::Global;
 
 // The greatest length of a text that is shown whole, in characters.
 const MOST_SHOWN: usize = 60;
+
+// Returns whether the number of a character is at least `from` and below `end`.
+fn is_among(from: u32, end: u32, code: u32) -> bool
+    ensures { result ≡ is_among from end code }
+{
+    code >= from && code < end
+}
 
 // Returns whether a character must not be shown as it is. A terminal may act on such a character, show nothing for it,
 // or reverse the direction of the text after it.
@@ -17,10 +24,10 @@ fn is_hidden(c: char) -> bool
 {
     let code = c as u32;
     code < 0x20
-        || (code >= 0x7f && code < 0xa0)
-        || (code >= 0x200b && code < 0x2010)
-        || (code >= 0x2028 && code < 0x2030)
-        || (code >= 0x2060 && code < 0x2070)
+        || is_among(0x7f, 0xa0, code)
+        || is_among(0x200b, 0x2010, code)
+        || is_among(0x2028, 0x2030, code)
+        || is_among(0x2060, 0x2070, code)
         || code == 0xfeff
 }
 
