@@ -9,7 +9,7 @@ use mencius_base::{Ballot, Value, Vote};
 ///
 /// A server first asks the slot for its answer, then reserves room for the messages, and then changes the slot in
 /// place.
-#[derive(Clone, Copy, Debug)]
+#[derive(Clone, Copy)]
 pub(crate) enum Change {
     Prepare(Ballot),
     Accept(Ballot, Value),

@@ -7,7 +7,7 @@ ghost use Rattle.std.specs.Prelude.{◌≡◌, ℕ, ◌+◌, ◌≤◌};
 use mencius_base::Members;
 
 /// The instances of one server from `first` up to, but not including, `stop`. The server owns `first`.
-#[derive(Clone, Copy, Debug)]
+#[derive(Clone, Copy)]
 pub(crate) struct OwnedInterval {
     pub(crate) members: Members,
     pub(crate) server: u8,

@@ -11,7 +11,7 @@ use std::alloc::Global;
 use std::marker::Model;
 
 /// An interval from one instance of a server up to, but not including, another instance of that server.
-#[derive(Clone, Copy, Debug)]
+#[derive(Clone, Copy)]
 pub(crate) struct Interval {
     pub(crate) first: u32,
     pub(crate) stop: u32,

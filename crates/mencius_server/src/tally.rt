@@ -19,7 +19,7 @@ use mencius_base::{GREATEST_ROUND, MOST_SERVERS, Members, Outbox, Refusal};
 use std::marker::Model;
 
 /// Counts of one server's instances below a place.
-#[derive(Clone, Copy, Debug)]
+#[derive(Clone, Copy)]
 pub(crate) struct Tally {
     /// The place below which instances are counted.
     pub(crate) stop: u32,
