@@ -1,4 +1,5 @@
 pub mod Passes
+pub mod LastCalls
 pub mod ShapeLists
 pub mod Needed
 pub mod Escapes

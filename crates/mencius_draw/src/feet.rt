@@ -128,8 +128,7 @@ fn push_lines(
     push_progress(alloc, text, line)?;
     push_history(alloc, text, server, shapes)?;
     push_waiting(alloc, text, line)?;
-    push_unheard(alloc, text, server, shapes)?;
-    Ok(())
+    push_unheard(alloc, text, server, shapes)
 }
 
 fn push_foot_at(
@@ -158,8 +157,7 @@ fn push_foot_at(
         "rect x='64' y='6' width='28' height='80' fill='url(#fading)'",
     )?;
     push_end(text, "g")?;
-    push_words(text, "\n")?;
-    Ok(())
+    push_words(text, "\n")
 }
 
 /// Adds the card of a server if the line shows the server's progress at the end. Adds no text for any other line.

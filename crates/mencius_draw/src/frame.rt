@@ -62,8 +62,7 @@ fn push_paper(
     let height = height_of(levels);
     let rest = format!(in alloc; "rect class='paper' width='{width}' height='{height}'")?;
     push_leaf(text, rest.as_str())?;
-    push_words(text, "\n")?;
-    Ok(())
+    push_words(text, "\n")
 }
 
 fn push_title(alloc: Global, text: &mut String, servers: u32) -> Result<(), AllocError>
@@ -97,8 +96,7 @@ fn push_head(
     push_style(alloc, text, scheme)?;
     push_words(text, "\n")?;
     push_definitions(text)?;
-    push_paper(alloc, text, width, levels)?;
-    Ok(())
+    push_paper(alloc, text, width, levels)
 }
 
 /// Returns the head, which comes before the first rule. It contains the title, the styles, the definitions and the
@@ -128,8 +126,7 @@ fn push_rule_at(
     let y = y_of(level) - 12;
     let rest = format!(in alloc; "path class='rule' d='M0 {y}H{width}'")?;
     push_leaf(text, rest.as_str())?;
-    push_words(text, "\n")?;
-    Ok(())
+    push_words(text, "\n")
 }
 
 /// Adds a rule above an event that is drawn. Adds no text for any other line.
@@ -205,8 +202,7 @@ fn push_lane(
     push_name(alloc, text, server)?;
     push_owns(alloc, text, servers, server)?;
     push_end(text, "g")?;
-    push_words(text, "\n")?;
-    Ok(())
+    push_words(text, "\n")
 }
 
 /// Adds a lane for each server.
@@ -234,6 +230,5 @@ pub(crate) fn push_key(text: &mut String, levels: usize) -> Result<(), AllocErro
     push_words(text, "\n")?;
     push_entries(text)?;
     push_end(text, "g")?;
-    push_words(text, "\n")?;
-    Ok(())
+    push_words(text, "\n")
 }

@@ -175,8 +175,7 @@ fn push_event(
     push_mark(text, act, is_refused)?;
     push_end(text, "g")?;
     push_end(text, "g")?;
-    push_words(text, "\n")?;
-    Ok(())
+    push_words(text, "\n")
 }
 
 // Returns the width of a box, in the picture's units. The letters of a label all have the same width. Only the first
@@ -244,8 +243,7 @@ fn push_tinted_box(
     let owner = owner_of(servers, inst);
     let rest = format!(in alloc; " class='says f{owner}' x='31' y='4'")?;
     push_box_around(alloc, text, servers, inst, false, label)?;
-    push_label(text, rest.as_str(), label)?;
-    Ok(())
+    push_label(text, rest.as_str(), label)
 }
 
 // Adds a label in a filled box.
@@ -259,8 +257,7 @@ fn push_filled_box(
     ensures { OnOk result (Adds [] (of_box (box_of servers inst true) ∷ []) (string_bytes text.old) (string_bytes text.new)) }
 {
     push_box_around(alloc, text, servers, inst, true, label)?;
-    push_label(text, " class='says on' x='31' y='4'", label)?;
-    Ok(())
+    push_label(text, " class='says on' x='31' y='4'", label)
 }
 
 // Adds the line from a lane to a box. If the box is next to a mark, the line begins at the mark's right edge.
@@ -328,8 +325,7 @@ fn push_sent(
     push_tick(alloc, text, owner, spot)?;
     push_sent_box(alloc, text, servers, sent, shape.line)?;
     push_end(text, "g")?;
-    push_words(text, "\n")?;
-    Ok(())
+    push_words(text, "\n")
 }
 
 // Adds a filled path on top of the mark of an event.
@@ -418,8 +414,7 @@ fn push_note(
     push_note_words(alloc, text, servers, note, shape.line)?;
     push_end(text, "g")?;
     push_end(text, "g")?;
-    push_words(text, "\n")?;
-    Ok(())
+    push_words(text, "\n")
 }
 
 /// Adds an event or one of its outcomes. Adds nothing for any other line, or if the event is not drawn.

@@ -102,8 +102,7 @@ fn push_place(text: &mut String, place: Place) -> Result<(), AllocError>
 {
     text.push_str(" transform='translate(")?;
     push_point(text, place)?;
-    text.push_str(")'")?;
-    Ok(())
+    text.push_str(")'")
 }
 
 fn push_at(text: &mut String, at: Option<Place>) -> Result<(), AllocError>
@@ -173,8 +172,7 @@ fn push_path_end(
     text.push_str("' marker-end='url(#")?;
     push_plain(text, shape)?;
     write!(text, "{owner}")?;
-    text.push_str(")'")?;
-    Ok(())
+    text.push_str(")'")
 }
 
 fn push_box_class(text: &mut String, label_box: LabelBox) -> Result<(), AllocError>
@@ -209,8 +207,7 @@ pub(crate) fn begun(alloc: Global, rest: &str) -> Result<String, AllocError>
 pub(crate) fn push_words(text: &mut String, words: &str) -> Result<(), AllocError>
     ensures { OnOk result (Keeps (string_bytes text.old) (string_bytes text.new)) }
 {
-    push_plain(text, words.as_bytes())?;
-    Ok(())
+    push_plain(text, words.as_bytes())
 }
 
 /// Adds an element without content. `rest` is its name and its attributes.
@@ -219,8 +216,7 @@ pub(crate) fn push_leaf(text: &mut String, rest: &str) -> Result<(), AllocError>
 {
     text.push_str("<")?;
     push_rest(text, rest.as_bytes())?;
-    text.push_str("/>")?;
-    Ok(())
+    text.push_str("/>")
 }
 
 fn push_start(text: &mut String, tag: Tag, rest: &str) -> Result<(), AllocError>
@@ -229,8 +225,7 @@ fn push_start(text: &mut String, tag: Tag, rest: &str) -> Result<(), AllocError>
     text.push_str("<")?;
     push_tag_name(text, tag)?;
     push_rest(text, rest.as_bytes())?;
-    text.push_str(">")?;
-    Ok(())
+    text.push_str(">")
 }
 
 /// Adds an element that contains words. `rest` is its attributes, each after a space.
@@ -244,8 +239,7 @@ pub(crate) fn push_element(
 {
     push_start(text, tag, rest)?;
     push_words(text, words)?;
-    push_end(text, tag.name())?;
-    Ok(())
+    push_end(text, tag.name())
 }
 
 /// Adds a text element.
@@ -261,8 +255,7 @@ pub(crate) fn push_end(text: &mut String, name: &str) -> Result<(), AllocError>
 {
     text.push_str("</")?;
     text.push_str(name)?;
-    text.push_str(">")?;
-    Ok(())
+    text.push_str(">")
 }
 
 /// Adds the start tag of a group that shows a line of a trace.
@@ -275,8 +268,7 @@ pub(crate) fn push_group(text: &mut String, group: Group, class: &str) -> Result
     push_plain(text, class.as_bytes())?;
     push_event(text, group.event)?;
     push_at(text, group.at)?;
-    text.push_str(">")?;
-    Ok(())
+    text.push_str(">")
 }
 
 /// Adds the start tag of a group that only has a place.
@@ -285,8 +277,7 @@ pub(crate) fn push_moved(text: &mut String, place: Place) -> Result<(), AllocErr
 {
     text.push_str("<g")?;
     push_place(text, place)?;
-    text.push_str(">")?;
-    Ok(())
+    text.push_str(">")
 }
 
 /// Adds the start tag of a group that shows no single line of a trace.
@@ -297,8 +288,7 @@ pub(crate) fn push_card(text: &mut String, class: &str, place: Place) -> Result<
     push_plain(text, class.as_bytes())?;
     text.push_str("'")?;
     push_place(text, place)?;
-    text.push_str(">")?;
-    Ok(())
+    text.push_str(">")
 }
 
 /// Adds the box of a label.
@@ -309,8 +299,7 @@ pub(crate) fn push_box(text: &mut String, label_box: LabelBox, rest: &str) -> Re
     push_box_class(text, label_box)?;
     text.push_str("' ")?;
     push_rest(text, rest.as_bytes())?;
-    text.push_str("/>")?;
-    Ok(())
+    text.push_str("/>")
 }
 
 /// Adds the start tag of an arrow. `kind` is the name of the message's kind. `bend` is the part of the path between the
@@ -334,22 +323,19 @@ pub(crate) fn push_arrow(
     push_plain(text, bend.as_bytes())?;
     push_point(text, arrow.tip)?;
     push_path_end(text, arrow.is_lost, shape.as_bytes(), arrow.owner)?;
-    text.push_str(">")?;
-    Ok(())
+    text.push_str(">")
 }
 
 /// Adds the definitions of the points of arrows.
 pub(crate) fn push_definitions(text: &mut String) -> Result<(), AllocError>
     ensures { OnOk result (Keeps (string_bytes text.old) (string_bytes text.new)) }
 {
-    text.push_str(DEFINITIONS)?;
-    Ok(())
+    text.push_str(DEFINITIONS)
 }
 
 /// Adds the entries of the key.
 pub(crate) fn push_entries(text: &mut String) -> Result<(), AllocError>
     ensures { OnOk result (Keeps (string_bytes text.old) (string_bytes text.new)) }
 {
-    text.push_str(KEY)?;
-    Ok(())
+    text.push_str(KEY)
 }

@@ -255,8 +255,7 @@ fn push_arrow_of(
     push_start(alloc, text, servers, sent, way, spot)?;
     push_title(alloc, text, sent, way)?;
     push_end(text, "path")?;
-    push_words(text, "\n")?;
-    Ok(())
+    push_words(text, "\n")
 }
 
 /// Adds the arrow of a delivery or a loss. Adds no text for any other line, or if the event is not drawn.

@@ -1,13 +1,15 @@
 use Rattle.std.proofs.Common.{string_bytes}
 use Rattle.mencius_draw.proofs.Escapes.{all_in_tag}
+use Rattle.mencius_draw.proofs.LastCalls.{last_str}
 use Rattle.mencius_draw.proofs.Passes.{same, then}
 use Rattle.mencius_draw.specs.Svg.{box}
 use Rattle.mencius_draw.proofs.svg.push_box.Goals as goal
 
 pub returns : goal.returns
-returns c = record {
-  run = λ tags es h.
-      let old = string_bytes c.args.text.now in
-      same (then old _ _ _ _ (then old _ _ _ _ (then old _ _ _ _ (then old _ _ _ _ c.in_ok-push_str.ensures.bytes c.in_ok-push_box_class.ensures) c.in_ok-push_str-2.ensures.bytes) c.in_ok-push_rest.ensures) c.in_ok-push_str-3.ensures.bytes)
-      (box c.args.label_box _ (all_in_tag _) h);
-}
+returns c =
+    last_str c.push_str-3.result _ _ _ c.push_str-3.ensures.bytes (λ last. record {
+      run = λ tags es h.
+          let old = string_bytes c.args.text.now in
+          same (then old _ _ _ _ (then old _ _ _ _ (then old _ _ _ _ (then old _ _ _ _ c.in_ok-push_str.ensures.bytes c.in_ok-push_box_class.ensures) c.in_ok-push_str-2.ensures.bytes) c.in_ok-push_rest.ensures) last)
+          (box c.args.label_box _ (all_in_tag _) h);
+    })

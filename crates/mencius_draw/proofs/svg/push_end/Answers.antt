@@ -1,12 +1,14 @@
 use Rattle.std.proofs.Common.{string_bytes}
+use Rattle.mencius_draw.proofs.LastCalls.{last_str}
 use Rattle.mencius_draw.proofs.Passes.{same, then}
 use Rattle.mencius_draw.specs.Svg.{end}
 use Rattle.mencius_draw.proofs.svg.push_end.Goals as goal
 
 pub returns : goal.returns
-returns c = record {
-  run = λ tags es h.
-      let old = string_bytes c.args.text.now in
-      same (then old _ _ _ _ (then old _ _ _ _ (c.in_ok-push_str.ensures.bytes) c.in_ok-push_str-2.ensures.bytes) c.in_ok-push_str-3.ensures.bytes)
-      (end c.args.name.now h);
-}
+returns c =
+    last_str c.push_str-3.result _ _ _ c.push_str-3.ensures.bytes (λ last. record {
+      run = λ tags es h.
+          let old = string_bytes c.args.text.now in
+          same (then old _ _ _ _ (then old _ _ _ _ (c.in_ok-push_str.ensures.bytes) c.in_ok-push_str-2.ensures.bytes) last)
+          (end c.args.name.now h);
+    })
