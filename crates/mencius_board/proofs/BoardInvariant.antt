@@ -7,7 +7,7 @@ use Rattle.mencius_cluster.specs.State.{ClusterState}
 use Rattle.mencius_board.specs.declared.version.Operation.{Operation}
 use Rattle.mencius_board.specs.Marks.{MarkState, VersionState, mark_of}
 use Rattle.mencius_board.specs.Shown.{book_of}
-use Rattle.mencius_board.specs.Pending.{AreHanded, added_commands}
+use Rattle.mencius_board.specs.Pending.{AreHanded, IsMarked, added_commands}
 use Rattle.mencius_board.specs.Boards.{IsBoardInside, IsSteady, longest_of}
 use Rattle.mencius_model.proofs.trace.Prefixes.{prefix_empty, prefix_trans, prefix_length, take_begins}
 
@@ -90,3 +90,17 @@ sound_shown x log opening mark seen shown os n list was waiting steady opening_i
       opening_is = opening_is;
       seen_is = seen_is ∙ ap (λ (m : MarkState). Some m.book) same;
     }
+
+-- the invariant still holds after some commands were handed over, because nothing else of the board changed
+pub sound_handed : (x : ClusterState) (log opening : MarkState) (seen was_seen : Option MarkState)
+    (shown was : VersionState) (os waiting : List Operation) (n m : ℕ) (list : List Command) → seen ≡ was_seen
+    → shown ≡ was → AreHanded shown.list os n list → list ≡ longest_of x
+    → IsBoardInside x log opening was_seen was waiting m → IsBoardInside x log opening seen shown os n
+sound_handed x log opening seen was_seen shown was os waiting n m list same_seen same handed all s = record {
+  steady = s.steady;
+  marked = subst (λ (v : VersionState). IsMarked log.book v) (sym same) s.marked;
+  handed_is = subst (λ (l : List Command). AreHanded shown.list os n l) all handed;
+  begins = s.begins;
+  opening_is = s.opening_is;
+  seen_is = ap book_of same_seen ∙ s.seen_is;
+}

@@ -1,11 +1,11 @@
 use Rattle.std.specs.Prelude.{◌≡◌, [], Some}
-use Rattle.std.proofs.Common.{rules, drop}
+use Rattle.std.proofs.Common.{rules, drop, ap, ◌∙◌}
 use Rattle.left_right.specs.Sides.{view}
 use Rattle.mencius_board.specs.Marks.{MarkState, mark_of}
 use Rattle.mencius_board.specs.Pending.{added_commands}
 use Rattle.mencius_board.specs.Shown.{book_of}
 use Rattle.mencius_board.specs.Boards.{longest_of}
-use Rattle.mencius_board.proofs.BoardInvariant.{sound_shown}
+use Rattle.mencius_board.proofs.BoardInvariant.{sound_handed, sound_shown}
 use Rattle.mencius_board.proofs.board.Board.show.Goals as goal
 
 pub invariant_of-self-2 : goal.invariant_of-self-2
@@ -27,3 +27,9 @@ invariant_of-self-2 g c =
 
 pub returns-clause-shown : goal.returns-clause-shown
 returns-clause-shown g c = search rules
+
+pub invariant_of-self : goal.invariant_of-self
+invariant_of-self g c =
+    sound_handed c.self.inside.cluster c.self.inside.log c.self.inside.opening _ _ _ _ _ _ _ _ c.as_slice.result.now
+    (ap (λ d. view d.place) c.hand_over.ensures.desk) (ap (λ d. d.shown.value) c.hand_over.ensures.desk)
+    c.hand_over.ensures.handed (c.as_slice.ensures.value ∙ c.in_ok-list.ensures.list) c.self.invariant
