@@ -1,7 +1,7 @@
 use Rattle.std.proofs.Common.{◌≡◌, ℕ, ◌<◌, ◌≤◌, ◌||◌, List, Option, [], ap, arith, cond, get_or, length, min, refl, rules, set, subst, sym, ◌∙◌}
 use Rattle.std.specs.List.{count_by}
 use Rattle.std.proofs.lemmas.Bool.{eq-eqb, ne_eqb}
-use Rattle.std.proofs.lemmas.List.{get_or_default}
+use Rattle.std.proofs.lemmas.List.{get_or_default, set-get_or}
 use Rattle.mencius_base.proofs.LeastOwned.{first_owned_owner}
 use Rattle.mencius_base.specs.Members.{Membership, first_owned, instances, owner}
 use Rattle.mencius_server.specs.Intervals.{AreSkippedIntervals, is_between, is_in_any}
@@ -11,7 +11,7 @@ use Rattle.mencius_server.specs.Instances.{InstancesState, IsSorted, instance_sl
 use Rattle.mencius_server.specs.Slots.{slot_after_skip_in}
 use Rattle.mencius_server.specs.declared.owned_interval.OwnedInterval.{OwnedInterval}
 use Rattle.mencius_server.proofs.stored.SkipStored.{IsAligned, news_is, skip_again, skip_gives, skip_is, skip_shows, skip_sorted, skip_sound, skip_stays, skip_theirs}
-use Rattle.mencius_server.specs.Tallies.{IsTally, tally_of}
+use Rattle.mencius_server.specs.Tallies.{IsInstancesInside, IsTally, tally_of}
 use Rattle.mencius_server.proofs.tallies.OneTally.{alike_same, sound_learned, tally_alike}
 use Rattle.mencius_server.proofs.tallies.InstanceTallies.{counts_put}
 use Rattle.mencius_server.proofs.intervals.NewIntervals.{old_news}
@@ -206,3 +206,24 @@ returns-then-past-stop-clause-learned c =
     c.first_owned-stop.ensures.above c.first_owned-stop.ensures.least)
     c.args.self.now (ap (λ (x : InstancesState). x.members) c.self.view_is)
     m c.self.inside.stored.slots rs c.self.inside.learned_below c.self.view_is c.self.invariant.sound
+
+-- If the call fails, the intervals of the skipper are as they were.
+same_after_error : (q : ℕ) (rs : List (List Interval)) (old new : List Interval) → old ≡ get_or rs q [] → new ≡ old
+    → set rs q new ≡ rs
+same_after_error q rs old new was same = ap (λ xs. set rs q xs) (same ∙ was) ∙ set-get_or rs q []
+
+pub invariant_of-self : goal.invariant_of-self
+invariant_of-self c =
+    let m = c.self.inside.stored.members in
+    let rs = c.self.inside.stored.skipped.items in
+    let member = has_intervals m c.self.inside.stored.slots rs c.args.self.now c.args.from c.self.view_is
+    c.self.invariant.sound.sorted c.requires.member in
+    let same = same_after_error c.args.from rs c.index_mut-intervals.result.now c.skip.new.intervals
+    (c.index_mut-intervals.ensures.value ∙ get_or_default rs c.args.from _ [] member)
+    c.in_err-learned.ensures.err.0 in
+    subst (λ (slots : List (Option SlotState)). IsInstancesInside m slots
+    (set rs c.args.from c.skip.new.intervals)
+    c.self.inside.learned_below c.self.inside.tallies c.self.inside.learned_intervals)
+    (sym c.in_err-learned.ensures.err.1)
+    (subst (λ (all : List (List Interval)). IsInstancesInside m c.self.inside.stored.slots all
+    c.self.inside.learned_below c.self.inside.tallies c.self.inside.learned_intervals) (sym same) c.self.invariant)
