@@ -2,4 +2,4 @@
 pub mod VersionItems
 pub mod ListItems
 pub mod ListedEvents
-pub mod NotedItems
+pub mod GoodItems
