@@ -1,8 +1,5 @@
 use Rattle.mencius_app.proofs.Words.{rules}
 use Rattle.mencius_app.proofs.states.push_slot_at.Goals as goal
 
-pub unreachable-unreachable : goal.unreachable-unreachable
-unreachable-unreachable c = search rules
-
 pub returns : goal.returns
 returns c = search rules
