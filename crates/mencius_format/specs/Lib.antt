@@ -9,3 +9,4 @@ pub mod Texts
 pub mod Sayable
 pub mod Laws
 pub mod Parts
+pub mod Shown

@@ -1,5 +1,6 @@
 -- The words that say where a scenario has a fault.
 use Rattle.std.specs.Prelude.{ℕ, ◌≡◌, ◌+◌, ◌++◌, ◌==◌, List, ◌∷◌, codes, decimal, drop, flat_map, Option, Some, None, MatchOption, if◌then◌else◌}
+use Rattle.mencius_format.specs.Shown.{shown_text}
 use Rattle.mencius_io.specs.declared.fault.IoFault.{IoFault}
 use Rattle.mencius_io.specs.declared.fault.IoFault.TheVariants.{BadLimit, BadShape, NotJson}
 use Rattle.mencius_json.specs.Crowds.{crowd_in}
@@ -15,7 +16,6 @@ use Rattle.mencius_input.specs.declared.kind.Kind.TheVariants.{Replay, Run}
 use Rattle.mencius_input.specs.FieldsOf.{field_name, list_field, row, whole_fields}
 use Rattle.mencius_input.specs.Places.{PlaceState, first_place}
 use Rattle.mencius_input.specs.Places as place
-use Rattle.mencius_input.specs.Shown.{shown_text}
 
 -- ---- parts of the words
 

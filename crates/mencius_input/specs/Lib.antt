@@ -7,7 +7,6 @@ pub mod ItemFaults
 pub mod FieldValues
 pub mod Events
 pub mod Kinds
-pub mod Shown
 pub mod Places
 pub mod Laws
 pub mod Explanations

@@ -1,16 +1,16 @@
 //! Says in words where a scenario is wrong.
 
 ghost use Rattle.std.specs.Prelude.{◌≡◌, ◌∷◌, ◌++◌, IfOk, OnOk, codes, decimal, option_map, string_bytes};
+ghost use Rattle.mencius_format.specs.Shown.{shown_text};
 ghost use Rattle.mencius_input.specs.Places.{place_state};
 ghost use Rattle.mencius_input.specs.Explanations.{Explains, ExplainsItem, ExplainsPlace, ExplainsUnread, IsPlaced, counts_words, crowd_words, field_words, kind_name, limit_words, number_words, range_words, unknown_words, unplaced_words};
-ghost use Rattle.mencius_input.specs.Shown.{shown_text};
 
 use crate::field::{Field, Shape, list_field, whole_fields};
 use crate::kind::Kind;
 use crate::places::{Place, place_of};
-use crate::shown::shown;
 use crate::wrong::wrong_item;
 use mencius_base::NoMemory;
+use mencius_format::shown;
 use mencius_io::IoFault;
 use mencius_json::{Crowd, crowd_in, stop_in};
 use std::alloc::Global;

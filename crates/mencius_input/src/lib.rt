@@ -15,7 +15,6 @@ mod places;
 mod plan;
 mod scenario;
 mod schedule;
-mod shown;
 mod wrong;
 
 pub use events::{Events, EventsLeft};

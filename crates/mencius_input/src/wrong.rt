@@ -1,11 +1,10 @@
 //! Says in words which word of an event or a command is wrong. Each word is judged by the function that reads it.
 
 use crate::kind::Kind;
-use crate::shown::shown;
 use mencius_base::{BadCommand, Command, CommandId, Key, NoMemory, Op, Text};
 use mencius_format::{
     NO_OPERATION, Part, command_version, cut_at_dot, cut_at_space, event_version, fault_of,
-    may_stand_in, operands_of, parse_id, parse_u8, parse_u32,
+    may_stand_in, operands_of, parse_id, parse_u8, parse_u32, shown,
 };
 use mencius_io::IoFault;
 use std::alloc::Global;

@@ -1,8 +1,8 @@
 use Rattle.std.proofs.Common.{◌++◌, flat_map, string_bytes, sym, ap, ◌∙◌, map-id}
 use Rattle.std.proofs.lemmas.Iterator.{YieldsList-from_chars, YieldsList-from_take}
 use Rattle.std.proofs.lemmas.Iterator.Consumers.{YieldsList-end}
-use Rattle.mencius_input.specs.Shown.{most_shown, shown_char}
-use Rattle.mencius_input.proofs.shown.push_front.Goals as goal
+use Rattle.mencius_format.specs.Shown.{most_shown, shown_char}
+use Rattle.mencius_format.proofs.shown_text.push_front.Goals as goal
 
 pub returns : goal.returns
 returns c =

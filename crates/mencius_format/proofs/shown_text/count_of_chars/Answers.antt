@@ -1,6 +1,6 @@
 use Rattle.std.proofs.lemmas.Iterator.{YieldsList-from_chars}
 use Rattle.std.proofs.lemmas.Iterator.Consumers.{count_from_yields_List}
-use Rattle.mencius_input.proofs.shown.count_of_chars.Goals as goal
+use Rattle.mencius_format.proofs.shown_text.count_of_chars.Goals as goal
 
 pub returns : goal.returns
 returns c =

@@ -2,7 +2,7 @@
 
 ghost use Rattle.std.specs.Prelude.{◌≡◌, ◌<◌, ◌++◌, IfOk, OnOk, flat_map, length, string_bytes, take};
 ghost use Rattle.std.specs.Str.{chars};
-ghost use Rattle.mencius_input.specs.Shown.{is_among, is_hidden, most_shown, shown_char, shown_number, shown_text};
+ghost use Rattle.mencius_format.specs.Shown.{is_among, is_hidden, most_shown, shown_char, shown_number, shown_text};
 
 use mencius_base::NoMemory;
 use std::alloc::Global;
@@ -81,7 +81,7 @@ fn count_of_chars(text: &str) -> usize
 /// Returns a text in quotes. Quotes and backslashes get a backslash before them. A character that must not be shown,
 /// such as a control character, is replaced by its number. If the text has more than 60 characters, only the first 60
 /// are shown, and two dots follow.
-pub(crate) fn shown(alloc: Global, text: &str) -> Result<String, NoMemory>
+pub fn shown(alloc: Global, text: &str) -> Result<String, NoMemory>
     ensures { IfOk result (λ s. string_bytes s ≡ shown_text text.now) }
 {
     let mut words = String::from_str(alloc, "\"")?;
