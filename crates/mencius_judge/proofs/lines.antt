@@ -1,5 +1,7 @@
 -- Reading a log.
 pub mod LineWords
+pub mod QuotedLines
+pub mod ReadTexts
 pub mod TakenLines
 pub mod LogEnds
 pub mod WrittenLines

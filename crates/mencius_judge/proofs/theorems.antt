@@ -1,8 +1,10 @@
 -- The laws.
 pub mod Moments
+pub mod Snapshots
 pub mod RepliesSeen
 pub mod SeenHistories
 pub mod OwnCluster
 pub mod LongestHistory
 pub mod WorkedLogs
+pub mod WorkedQuotes
 pub mod WorkedOrders

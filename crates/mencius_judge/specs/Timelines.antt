@@ -1,5 +1,5 @@
 -- The text that each key held after each number of commands, and the periods that record it.
-use Rattle.std.specs.Prelude.{◌≡◌, ◌≢◌, ◌≤◌, ◌<◌, ℕ, List, [], Option, Some, None, length, slice_get, take}
+use Rattle.std.specs.Prelude.{◌≡◌, ◌≢◌, ◌≤◌, ◌<◌, ◌+◌, ℕ, List, [], Option, Some, None, length, slice_get, take}
 use Rattle.std.proofs.Common.{Global, String, Vec}
 use Rattle.std.specs.BTreeMap.{BTreeMap, get_by_text}
 use Rattle.std.specs.FinMap as finite
@@ -30,6 +30,12 @@ pub record IsFirstCount (held : ℕ → Option (List ℕ)) (text : Option (List 
 -- the key did not hold the text after any number of commands from `from` to `to`
 abbrev pub HasNone : (ℕ → Option (List ℕ)) → Option (List ℕ) → ℕ → ℕ → Type 0
 HasNone held text from to = (m : ℕ) → from ≤ m → m ≤ to → held m ≢ text
+
+-- n is the number of commands after which the key began to hold the text that it holds after `to` commands
+pub record IsBeginning (held : ℕ → Option (List ℕ)) (to n : ℕ) : Type 0 where
+  pub within : n ≤ to
+  pub same : (m : ℕ) → n ≤ m → m ≤ to → held m ≡ held to
+  pub change : (m : ℕ) → m + 1 ≡ n → held m ≢ held to
 
 -- ---- periods
 
@@ -74,6 +80,10 @@ pub record IsTimeline (held : ℕ → Option (List ℕ)) (count : ℕ) (t : Time
       → (n : ℕ) → p.first ≤ n → n < p.stop → held n ≡ x
   pub all : (x : Option (List ℕ)) (n : ℕ) → n < t.since → held n ≡ x
       → (i : ℕ) × (p : Period) × (slice_get (periods_of t x) i ≡ Some p) × (p.first ≤ n) × (n < p.stop)
+  -- each period begins with a change, unless it begins at 0, and so does the present text
+  pub begins : (x : Option (List ℕ)) (i : ℕ) (p : Period) → slice_get (periods_of t x) i ≡ Some p
+      → (n : ℕ) → n + 1 ≡ p.first → held n ≢ x
+  pub began : (n : ℕ) → n + 1 ≡ t.since → held n ≢ t.text
 
 -- the timeline, if there is one, is right for the key. A key without a timeline has never held a text
 abbrev pub IsTimelineOf : (ℕ → Option (List ℕ)) → ℕ → Option Timeline → Type 0

@@ -1,22 +1,39 @@
--- The line that reports a verdict.
-use Rattle.std.specs.Prelude.{ℕ, List, [], ◌∷◌, ◌++◌, codes, decimal, Option, Some, None}
+-- The text that reports a verdict.
+use Rattle.std.specs.Prelude.{ℕ, List, [], ◌∷◌, ◌++◌, codes, decimal, flat_map, Option}
 use Rattle.mencius_base.specs.declared.command.CommandId.{CommandId}
 use Rattle.mencius_format.specs.Texts.{id_text}
 use Rattle.mencius_judge.specs.declared.counts.Counts.{Counts}
+use Rattle.mencius_judge.specs.declared.observation.Answer.{Answer}
+use Rattle.mencius_judge.specs.declared.observation.Answer.TheVariants.{Held}
+use Rattle.mencius_judge.specs.declared.quote.Quote.{Quote}
 use Rattle.mencius_judge.specs.declared.violation.Violation.{Violation}
 use Rattle.mencius_judge.specs.declared.violation.Violation.TheVariants as violation
+use Rattle.mencius_judge.specs.ObservationLines.{answer_text, held_text, observation_line}
+use Rattle.mencius_judge.specs.Sentences.{sentence_text}
 
--- the line that reports a log that keeps all promises, with its counts
+-- the figures of the servers and the commands
+abbrev pub commands_text : Counts → List ℕ
+commands_text c =
+    codes " servers " ++ (decimal c.servers ++ (codes " commands " ++ (decimal c.commands ++ (codes " executed "
+    ++ decimal c.executed))))
+
+-- the figures of the replies and the lookups, and the length of the shortest history
+abbrev pub replies_text : Counts → List ℕ
+replies_text c =
+    codes " replies " ++ (decimal c.replies ++ (codes " open " ++ (decimal c.open_replies ++ (codes " lookups "
+    ++ (decimal c.lookups ++ (codes " shortest " ++ (decimal c.shortest ++ 10 ∷ [])))))))
+
+-- the figures of a log that keeps all promises
+abbrev pub counts_text : Counts → List ℕ
+counts_text c = commands_text c ++ replies_text c
+
+-- the line that reports a log that keeps all promises, after something was judged
 abbrev pub kept_line : Counts → List ℕ
-kept_line c =
-    codes "ok servers " ++ decimal c.servers ++ codes " commands " ++ decimal c.commands ++ codes " executed "
-    ++ decimal c.executed ++ codes " replies " ++ decimal c.replies ++ codes " open " ++ decimal c.open_replies
-    ++ codes " lookups " ++ decimal c.lookups ++ 10 ∷ []
+kept_line c = codes "ok" ++ counts_text c
 
--- the text that a key held after `=`, or `none` if it held none
-abbrev pub held_text : Option (List ℕ) → List ℕ
-held_text None = codes "none"
-held_text (Some text) = codes "=" ++ text
+-- the line that reports a log that keeps all promises, if that says too little
+abbrev pub unjudged_line : Counts → List ℕ
+unjudged_line c = codes "unjudged" ++ counts_text c
 
 -- some words, and then the identity of a command
 abbrev pub named_text : List ℕ → CommandId → List ℕ
@@ -26,9 +43,9 @@ named_text words id = words ++ id_text id
 abbrev pub place_text : ℕ → ℕ → List ℕ
 place_text server place = codes " server " ++ decimal server ++ codes " place " ++ decimal place
 
--- the words for the expected text and the found text
-abbrev pub texts_found : Option (List ℕ) → Option (List ℕ) → List ℕ
-texts_found expected found = codes " expected " ++ held_text expected ++ codes " found " ++ held_text found
+-- the words for the expected reply and the found reply
+abbrev pub answers_found : Answer → Answer → List ℕ
+answers_found expected found = codes " expected " ++ answer_text expected ++ codes " found " ++ answer_text found
 
 -- the words for the reader and the key of a lookup
 abbrev pub reader_text : ℕ → List ℕ → List ℕ
@@ -49,6 +66,8 @@ subject_text (violation.RealTime server place id behind) = codes "RealTime" ++ p
 subject_text (violation.OneReply id expected found) = named_text (codes "OneReply command ") id
 subject_text (violation.RightReply id place expected found) = named_text (codes "RightReply command ") id
 subject_text (violation.RightLookup reader key from to found) = codes "RightLookup" ++ reader_text reader key
+subject_text (violation.Settled server id) = codes "Settled server " ++ decimal server
+subject_text (violation.Restore server source count) = codes "Restore server " ++ decimal server
 
 -- the words for the details of a violation, such as the expected and the found text
 abbrev pub details_text : Violation → List ℕ
@@ -59,10 +78,13 @@ details_text (violation.SameOrder server place expected found) =
     named_text (codes " expected ") expected ++ named_text (codes " found ") found
 details_text (violation.RealTime server place id behind) =
     named_text (codes " command ") id ++ named_text (codes " behind ") behind
-details_text (violation.OneReply id expected found) = texts_found expected found
+details_text (violation.OneReply id expected found) = answers_found expected found
 details_text (violation.RightReply id place expected found) =
-    codes " place " ++ decimal place ++ texts_found expected found
+    codes " place " ++ decimal place ++ answers_found (Held expected) found
 details_text (violation.RightLookup reader key from to found) = nowhere_text from to found
+details_text (violation.Settled server id) = named_text (codes " command ") id
+details_text (violation.Restore server source count) =
+    codes " from " ++ decimal source ++ codes " place " ++ decimal count
 
 -- the words for the broken promise and the details of the violation
 abbrev pub violation_text : Violation → List ℕ
@@ -71,3 +93,17 @@ violation_text violation = subject_text violation ++ details_text violation
 -- the line that reports a log that breaks a promise at the line with this number
 abbrev pub broken_line : ℕ → Violation → List ℕ
 broken_line number violation = codes "violation " ++ decimal number ++ 32 ∷ violation_text violation ++ 10 ∷ []
+
+-- the line that quotes a line of the log, with its number
+abbrev pub quote_line : Quote → List ℕ
+quote_line q = codes "line " ++ decimal q.number ++ codes ": " ++ observation_line q.observation
+
+-- the lines that quote these lines, in their order
+abbrev pub quote_lines : List Quote → List ℕ
+quote_lines quotes = flat_map quote_line quotes
+
+-- the text that reports and explains a log that breaks a promise. It is the line of the verdict, the quoted lines, and
+-- a sentence
+abbrev pub explained_text : ℕ → Violation → List Quote → List ℕ
+explained_text number violation quotes =
+    broken_line number violation ++ (quote_lines quotes ++ (sentence_text violation ++ 10 ∷ []))

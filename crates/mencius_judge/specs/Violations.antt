@@ -1,16 +1,18 @@
 -- The violations of promises, and how an observation shows each of them.
-use Rattle.std.specs.Prelude.{◌≡◌, ◌≢◌, ◌≤◌, ◌⊎◌, ℕ, true, false, Contains, List, ◌∷◌, ◌++◌, Option, Some, None, length, slice_get, take}
+use Rattle.std.specs.Prelude.{◌≡◌, ◌≢◌, ◌≤◌, ◌<◌, ◌⊎◌, ℕ, true, false, Contains, List, [], ◌∷◌, ◌++◌, Option, Some, None, length, slice_get, take}
 use Rattle.mencius_base.specs.Numbers.{ServerId}
 use Rattle.mencius_base.specs.declared.command.Command.{Command}
 use Rattle.mencius_base.specs.declared.command.CommandId.{CommandId}
 use Rattle.mencius_model.specs.KeyMap.{out, value_at}
+use Rattle.mencius_judge.specs.declared.observation.Answer.{Answer}
 use Rattle.mencius_judge.specs.declared.observation.Observation.{Observation}
-use Rattle.mencius_judge.specs.declared.observation.Observation.TheVariants.{Submit, Execute, Reply, Lookup}
+use Rattle.mencius_judge.specs.declared.observation.Observation.TheVariants.{Submit, Execute, Reply, Lookup, Settle, Restore}
 use Rattle.mencius_judge.specs.declared.violation.Promise.{Promise}
 use Rattle.mencius_judge.specs.declared.violation.Promise.TheVariants as promise
 use Rattle.mencius_judge.specs.declared.violation.Violation.{Violation}
 use Rattle.mencius_judge.specs.declared.violation.Violation.TheVariants as violation
-use Rattle.mencius_judge.specs.Log.{Log, MaySee, command_of, commands_of, has_id, history, reply_of, with_reply_before}
+use Rattle.mencius_judge.specs.Answers.{IsRight}
+use Rattle.mencius_judge.specs.Log.{Log, MaySee, acknowledged, acknowledged_before, command_of, commands_of, has_id, history, reply_of}
 
 -- the promise that a violation breaks
 abbrev pub promise_of : Violation → Promise
@@ -22,13 +24,15 @@ promise_of (violation.RealTime server place id behind) = promise.RealTime
 promise_of (violation.OneReply id expected found) = promise.OneReply
 promise_of (violation.RightReply id place expected found) = promise.RightReply
 promise_of (violation.RightLookup reader key from to found) = promise.RightLookup
+promise_of (violation.Settled server id) = promise.Settled
+promise_of (violation.Restore server source count) = promise.Restore
 
--- the command is at this place of some history, and a map that executes the commands before it returns this text
-pub record IsAnswerAt (w : Log) (id : CommandId) (place : ℕ) (text : Option (List ℕ)) : Type 0 where
+-- the command is at this place of some history, and a map that executes the commands before it holds this text at the
+-- command's key
+pub record IsAnswerAt (w : Log) (id : CommandId) (command : Command) (place : ℕ) (text : Option (List ℕ)) : Type 0 where
   pub server : ServerId
   pub front : List CommandId
   pub back : List CommandId
-  pub command : Command
   pub splits : history w server ≡ front ++ id ∷ back
   pub place_is : place ≡ length front
   pub there : command_of w id ≡ Some command
@@ -53,7 +57,7 @@ IsShownBy w o (violation.OneCommand id) =
     (c d : Command) × (o ≡ Submit d) × (d.id ≡ id) × (command_of w id ≡ Some c) × (c ≢ d)
 -- the command is executed or gets a reply, but was not submitted before
 IsShownBy w o (violation.Submitted id) =
-    (((p : ServerId) × (o ≡ Execute p id)) ⊎ ((x : Option (List ℕ)) × (o ≡ Reply id x))) × (command_of w id ≡ None)
+    (((p : ServerId) × (o ≡ Execute p id)) ⊎ ((x : Answer) × (o ≡ Reply id x))) × (command_of w id ≡ None)
 -- the server executes the command at this place, but its history already contains the command
 IsShownBy w o (violation.Once server place id) =
     (o ≡ Execute server id) × (place ≡ length (history w server)) × (has_id (history w server) id ≡ true)
@@ -61,18 +65,27 @@ IsShownBy w o (violation.Once server place id) =
 IsShownBy w o (violation.SameOrder server place expected found) =
     (o ≡ Execute server found) × (place ≡ length (history w server))
     × (q : ServerId) × (slice_get (history w q) place ≡ Some expected) × (expected ≢ found)
--- the server executes the command at this place, but has not executed `behind`, which had a reply when the command was
+-- the server executes the command at this place, but does not have `behind`, which was acknowledged when the command was
 -- first submitted
 IsShownBy w o (violation.RealTime server place id behind) =
-    (o ≡ Execute server id) × (place ≡ length (history w server)) × (has_id (with_reply_before w id) behind ≡ true)
+    (o ≡ Execute server id) × (place ≡ length (history w server)) × (has_id (acknowledged_before w id) behind ≡ true)
     × (has_id (history w server) behind ≡ false)
 -- the command gets the reply `found`, but its first reply was `expected`
 IsShownBy w o (violation.OneReply id expected found) =
     (o ≡ Reply id found) × (reply_of w id ≡ Some expected) × (expected ≢ found)
--- the command has the reply `found`, but a map returns `expected` at this place of a history
+-- the command has the reply `found`, which is not right for the text `expected` that a map holds at this place of a
+-- history
 IsShownBy w o (violation.RightReply id place expected found) =
-    Contains (o ∷ w) (Reply id found) × IsAnswerAt (o ∷ w) id place expected × (expected ≢ found)
+    Contains (o ∷ w) (Reply id found)
+    × (command : Command) × IsAnswerAt (o ∷ w) id command place expected × (IsRight command.op expected found → ⊥)
 -- the reader finds a text that the key did not hold after any number of commands from `from` to `to`. These are the
 -- reader's floor and the length of the longest history
 IsShownBy w o (violation.RightLookup reader key from to found) =
     (o ≡ Lookup reader key found) × IsFloor w reader from × IsNowhere w key found from to
+-- the server is said to be settled, but does not have this command, which was acknowledged before
+IsShownBy w o (violation.Settled server id) =
+    (o ≡ Settle server) × (has_id (acknowledged w) id ≡ true) × (has_id (history w server) id ≡ false)
+-- the server takes over the first `count` commands of the server `source`. But it has a history, or `source` has fewer
+-- commands
+IsShownBy w o (violation.Restore server source count) =
+    (o ≡ Restore server source count) × ((history w server ≢ []) ⊎ (length (history w source) < count))

@@ -1,12 +1,14 @@
-ghost use Rattle.std.specs.Prelude.{◌≡◌, ◌<◌, ◌+◌, [], ◌∷◌, ◌++◌, IfOk, OnOk, get_or, length, replicate};
-ghost use Rattle.std.specs.List.{count_by};
-ghost use Rattle.std.specs.Vec.{vec_len};
-ghost use Rattle.std.proofs.Math.ListN.{set};
-ghost use Rattle.mencius_judge.specs.Counts.{is_some_length};
+ghost use Rattle.std.specs.Prelude.{◌≡◌, ◌≢◌, ℕ, [], ◌∷◌, ◌++◌, Some, None, IfOk, MatchOption, OnOk, length, map};
+ghost use Rattle.std.specs.BTreeMap.{Updates, get};
+ghost use Rattle.std.specs.Ordering.{nat_cmp};
+ghost use Rattle.mencius_judge.specs.Counts.{least_of};
+ghost use Rattle.mencius_judge.specs.Rows.{IsAdded, IsAdvanced, IsFollowed, count_of, row_count, row_of};
 ghost use Rattle.mencius_judge.specs.Tables.{IsNext};
 
+use crate::counts::one_more_command;
 use mencius_base::{CommandId, NoMemory};
 use std::alloc::Global;
+use std::collections::BTreeMap;
 
 /// How the next command of a server compares with the commands that other servers executed.
 #[derive(Clone, Copy, Debug, PartialEq, Eq)]
@@ -19,51 +21,98 @@ pub enum Next {
     Leads,
 }
 
+/// The first execution at a place, with the server and the number of the line.
+#[derive(Clone, Copy, Debug, PartialEq, Eq)]
+pub struct Lead {
+    pub server: u32,
+    pub line: u64,
+}
+
+/// The commands that a server took over from another one, with the number of the line.
+#[derive(Clone, Copy, Debug, PartialEq, Eq)]
+pub struct Snapshot {
+    pub line: u64,
+    pub source: u32,
+    pub count: u32,
+}
+
+/// The history of a server.
+#[derive(Drop)]
+pub struct Row {
+    /// The number of commands that the server has.
+    pub count: usize,
+    /// The snapshot with which its history began, if it began with one.
+    pub snapshot: Option<Snapshot>,
+    /// The numbers of the lines of its executions, in order.
+    pub lines: Vec<u64>,
+}
+
 /// The commands that the servers executed, as the longest history and the number of its commands that each server has.
 #[derive(Drop)]
 pub struct Histories {
+    alloc: Global,
     pub order: Vec<CommandId>,
-    pub counts: Vec<usize>,
-    ghost all: { vec_len counts ≡ 256 },
+    // The first execution at each place of `order`.
+    pub leads: Vec<Lead>,
+    // The place of each server that has a history in `rows`. The rows are in the order in which the servers got it.
+    pub places: BTreeMap<u64, usize>,
+    pub rows: Vec<Row>,
 }
 
 impl Histories {
     /// Creates the histories of servers that have executed nothing.
-    pub fn new(alloc: Global) -> Result<Histories, NoMemory>
-        ensures order { IfOk result (λ h. h.order.items ≡ []) }
-        ensures counts { IfOk result (λ h. h.counts.items ≡ replicate 256 0) }
+    pub fn new(alloc: Global) -> Histories
+        ensures order { result.order.items ≡ [] }
+        ensures leads { result.leads.items ≡ [] }
+        ensures places { (p : ℕ) → get nat_cmp result.places p ≡ None }
+        ensures rows { result.rows.items ≡ [] }
     {
-        Ok(Histories {
+        Histories {
+            alloc,
             order: Vec::new(alloc),
-            counts: vec![in alloc; 0; 256]?,
-        })
+            leads: Vec::new(alloc),
+            places: BTreeMap::new(alloc),
+            rows: Vec::new(alloc),
+        }
     }
 
     /// Returns how this command would compare if the server executed it next.
-    pub fn next(&self, server: u8, id: CommandId) -> Next
-        ensures { IsNext self.now.order.items (get_or self.now.counts.items server 0) id result }
+    pub fn next(&self, server: u32, id: CommandId) -> Next
+        ensures { IsNext self.now.order.items (count_of self.now.places self.now.rows.items server) id result }
     {
-        let place = self.counts[server as usize];
-        match self.order.get(place) {
+        match self.order.get(self.count(server)) {
             None => Next::Leads,
             Some(found) if *found == id => Next::Follows,
             Some(found) => Next::Differs { expected: *found },
         }
     }
 
-    /// Returns the number of commands that a server has executed.
-    pub fn count(&self, server: u8) -> usize
-        ensures { result ≡ get_or self.now.counts.items server 0 }
+    /// Returns the row of a server, if it has a history.
+    pub fn row(&self, server: u32) -> Option<&Row>
+        ensures { MatchOption result (row_of self.now.places self.now.rows.items server ≡ None)
+            (λ row. row_of self.now.places self.now.rows.items server ≡ Some row.now) }
     {
-        self.counts[server as usize]
+        match self.places.get(&u64::from(server)) {
+            Some(place) => self.rows.get(*place),
+            None => None,
+        }
     }
 
-    /// Returns the number of servers that have executed at least one command.
-    pub fn servers(&self) -> usize
-        ensures { result ≡ count_by is_some_length self.now.counts.items }
+    /// Returns the number of commands that a server has.
+    pub fn count(&self, server: u32) -> usize
+        ensures { result ≡ count_of self.now.places self.now.rows.items server }
     {
-        let counts = self.counts.as_slice();
-        counts.iter().filter(|count| **count > 0).count()
+        match self.row(server) {
+            Some(row) => row.count,
+            None => 0,
+        }
+    }
+
+    /// Returns the number of servers that have at least one command.
+    pub fn servers(&self) -> usize
+        ensures { result ≡ length self.now.rows.items }
+    {
+        self.rows.len()
     }
 
     /// Returns the number of commands in the longest history.
@@ -73,25 +122,114 @@ impl Histories {
         self.order.len()
     }
 
-    /// Records that the server executes the next command of the longest history. The server must not have executed all
-    /// of that history yet.
-    pub fn follow(&mut self, server: u8)
-        requires { get_or self.old.counts.items server 0 < length self.old.order.items }
-        ensures order { self.new.order.items ≡ self.old.order.items }
-        ensures counts { self.new.counts.items
-            ≡ set self.old.counts.items server (get_or self.old.counts.items server 0 + 1) }
+    /// Returns the number of commands in the shortest history that is not empty, or 0 if there is none.
+    pub fn shortest(&self) -> usize
+        ensures { result ≡ least_of (map row_count self.now.rows.items) }
     {
-        self.counts[server as usize] += 1;
+        let rows = self.rows.as_slice();
+        match rows.iter().map(|row| row.count).min() {
+            Some(count) => count,
+            None => 0,
+        }
+    }
+
+    /// Records that the server executes the next command of the longest history, in this line. The server must not have
+    /// all of that history yet.
+    pub fn follow(&mut self, line: u64, server: u32) -> Result<(), NoMemory>
+        ensures order { self.new.order.items ≡ self.old.order.items }
+        ensures leads { self.new.leads.items ≡ self.old.leads.items }
+        ensures rows { OnOk result (IsFollowed line server self.old.places self.old.rows.items
+            self.new.places self.new.rows.items) }
+    {
+        match self.places.get(&u64::from(server)) {
+            Some(place) => advance(&mut self.rows, *place, line),
+            None => self.begin(line, server),
+        }
+    }
+
+    // Adds a row for a server that executes its first command in this line.
+    fn begin(&mut self, line: u64, server: u32) -> Result<(), NoMemory>
+        ensures order { self.new.order.items ≡ self.old.order.items }
+        ensures leads { self.new.leads.items ≡ self.old.leads.items }
+        ensures rows { OnOk result (IsAdded server 1 None (line ∷ []) self.old.places self.old.rows.items
+            self.new.places self.new.rows.items) }
+    {
+        let mut lines = Vec::new(self.alloc);
+        lines.push(line)?;
+        let row = Row {
+            count: 1,
+            snapshot: None,
+            lines,
+        };
+        self.add_row(server, row)
     }
 
     /// Records that the server executes this command at a place that no server had reached.
-    pub fn lead(&mut self, server: u8, id: CommandId) -> Result<(), NoMemory>
+    pub fn lead(&mut self, line: u64, server: u32, id: CommandId) -> Result<(), NoMemory>
         ensures order { OnOk result (self.new.order.items ≡ self.old.order.items ++ id ∷ []) }
-        ensures counts { OnOk result (self.new.counts.items
-            ≡ set self.old.counts.items server (length self.old.order.items + 1)) }
+        ensures leads { OnOk result (self.new.leads.items
+            ≡ self.old.leads.items ++ record { server = server; line = line } ∷ []) }
+        ensures rows { OnOk result (IsFollowed line server self.old.places self.old.rows.items
+            self.new.places self.new.rows.items) }
     {
         self.order.push(id)?;
-        self.counts[server as usize] = self.order.len();
+        self.leads.push(Lead { server, line })?;
+        self.follow(line, server)
+    }
+
+    /// Records that the server, which has no history, takes over the first `count` commands of the longest history.
+    pub fn restore(
+        &mut self,
+        line: u64,
+        server: u32,
+        source: u32,
+        count: u32,
+    ) -> Result<(), NoMemory>
+        ensures order { self.new.order.items ≡ self.old.order.items }
+        ensures leads { self.new.leads.items ≡ self.old.leads.items }
+        ensures none { count ≡ 0 → (self.new.places ≡ self.old.places) × (self.new.rows ≡ self.old.rows) }
+        ensures some { OnOk result (count ≢ 0 → IsAdded server count
+            (Some (record { line = line; source = source; count = count })) []
+            self.old.places self.old.rows.items self.new.places self.new.rows.items) }
+    {
+        if count == 0 {
+            return Ok(());
+        }
+        let snapshot = Snapshot {
+            line,
+            source,
+            count,
+        };
+        let row = Row {
+            count: count as usize,
+            snapshot: Some(snapshot),
+            lines: Vec::new(self.alloc),
+        };
+        self.add_row(server, row)
+    }
+
+    // Adds a row for a server that has no history.
+    fn add_row(&mut self, server: u32, row: Row) -> Result<(), NoMemory>
+        ensures order { self.new.order.items ≡ self.old.order.items }
+        ensures leads { self.new.leads.items ≡ self.old.leads.items }
+        ensures rows { OnOk result (self.new.rows.items ≡ self.old.rows.items ++ row ∷ []) }
+        ensures places { OnOk result (Updates nat_cmp self.old.places self.new.places server
+            (Some (length self.old.rows.items))) }
+    {
+        let place = self.rows.len();
+        self.rows.push(row)?;
+        self.places.insert(u64::from(server), place)?;
         Ok(())
     }
+}
+
+// Adds one command to the row at this place, by the execution in this line.
+fn advance(rows: &mut Vec<Row>, place: usize, line: u64) -> Result<(), NoMemory>
+    ensures { OnOk result (IsAdvanced line place rows.old.items rows.new.items) }
+{
+    if let Some(row) = rows.get_mut(place) {
+        row.lines.push(line)?;
+        row.count = one_more_command(row.count)?;
+    }
+    Ok(())
 }

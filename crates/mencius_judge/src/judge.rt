@@ -1,19 +1,22 @@
-ghost use Rattle.std.specs.Prelude.{◌≡◌, ◌≢◌, ◌↔◌, ◌<◌, ◌≤◌, ◌+◌, [], ◌∷◌, Some, None, IsNone, IsTrue, IfOk, OnOk, MatchOption, get_or, length, slice_get};
-ghost use Rattle.std.specs.BTreeMap.{Updates, get};
-ghost use Rattle.std.specs.List.{count_by};
+ghost use Rattle.std.specs.Prelude.{ℕ, ◌≡◌, ◌↔◌, [], ◌∷◌, Some, IsNone, IfOk, OnOk};
+ghost use Rattle.std.specs.BTreeMap.{Updates};
 ghost use Rattle.std.specs.Ordering.{nat_cmp};
-ghost use Rattle.mencius_judge.specs.declared.observation.Observation.TheVariants.{Execute, Lookup, Reply, Submit, Tell};
-ghost use Rattle.mencius_base.specs.declared.command.CommandId.{CommandId};
+ghost use Rattle.mencius_judge.specs.declared.observation.Observation.TheVariants.{Execute, Lookup, Reply, Restore, Settle, Submit, Tell};
+ghost use Rattle.mencius_judge.specs.declared.histories.Next.TheVariants.{Differs, Leads};
 ghost use Rattle.mencius_judge.specs.Log.{Log};
 ghost use Rattle.mencius_judge.specs.Promises.{KeepsAll};
-ghost use Rattle.mencius_judge.specs.declared.histories.Next.TheVariants.{Differs, Leads};
-ghost use Rattle.mencius_judge.specs.Tables.{AreSettled, IsNext, IsNoOther, IsNoOtherExecution, IsSettledAt, floor_of, has_no_place, identity_key};
+ghost use Rattle.mencius_judge.specs.Quotes.{NumberedLog, log_of};
+ghost use Rattle.mencius_judge.specs.Rows.{count_of};
+ghost use Rattle.mencius_judge.specs.Tables.{IsNext, floor_of, identity_key};
 
+use crate::answers::copy_of_answer;
 use crate::counts::{Counts, one_more};
 use crate::histories::{Histories, Next};
-use crate::observation::Observation;
+use crate::observation::{Answer, Observation};
 use crate::operations::is_same_op;
-use crate::texts::{copy_of, copy_of_key, is_same_text};
+use crate::reply_checks::{other_reply, wrong_at_place, wrong_before};
+use crate::settled::{acknowledge, count_settled, first_unsettled, id_at, open_count};
+use crate::texts::{copy_of, copy_of_key};
 use crate::timelines::Timelines;
 use crate::violation::Violation;
 use mencius_base::{Command, CommandId, Key, NoMemory, Text};
@@ -23,124 +26,159 @@ use std::collections::BTreeMap;
 // The number of different command numbers of a client.
 const NUMBER_COUNT: u64 = 1 << 32;
 
-// Returns an identity as a single number.
-fn identity_key(id: CommandId) -> u64
+/// Returns an identity as a single number.
+pub(crate) fn identity_key(id: CommandId) -> u64
     ensures { result ≡ identity_key id }
 {
     u64::from(id.client) * NUMBER_COUNT + u64::from(id.number)
 }
 
-/// A submitted command, and the number of commands that had a reply when it was first submitted.
+/// A submitted command, the number of commands that were acknowledged when it was first submitted, and the number of the
+/// line that first submitted it.
 #[derive(Drop)]
 pub struct Submission {
-    command: Command,
-    replies_before: usize,
+    pub command: Command,
+    pub acknowledged: usize,
+    pub line: u64,
 }
 
 impl Submission {
-    fn of(command: &Command, replies_before: usize) -> Result<Submission, NoMemory>
+    fn of(command: &Command, acknowledged: usize, line: u64) -> Result<Submission, NoMemory>
         ensures command { IfOk result (λ s. s.command ≡ command.now) }
-        ensures replies_before { IfOk result (λ s. s.replies_before ≡ replies_before) }
+        ensures acknowledged { IfOk result (λ s. s.acknowledged ≡ acknowledged) }
+        ensures line { IfOk result (λ s. s.line ≡ line) }
     {
         Ok(Submission {
             command: command.clone()?,
-            replies_before,
+            acknowledged,
+            line,
         })
     }
 }
 
-/// The place of a command in the longest history, and the reply that the map gives there.
+/// The first reply to a command, and the number of its line.
+#[derive(Drop)]
+pub struct FirstReply {
+    pub answer: Answer,
+    pub line: u64,
+}
+
+/// The place of a command in the longest history, and the text that a map holds at its key there.
 #[derive(Drop)]
 pub struct Execution {
-    place: usize,
-    reply: Option<Text>,
+    pub place: usize,
+    pub held: Option<Text>,
+}
+
+/// The acknowledged commands that are known to be in the longest history. These are the first `count` acknowledged
+/// commands, and `highest` is the highest of their places.
+#[derive(Clone, Copy, Debug, PartialEq, Eq)]
+pub struct SettledCommands {
+    pub count: usize,
+    pub highest: usize,
 }
 
 /// The knowledge of a store that is needed to judge its next observation.
 ///
 /// A judge does not keep the observations. It keeps the commands, their first replies, the longest history, the changes
-/// of the keys, and how far each server and each reader has come.
+/// of the keys, and how far each server and each reader has come. It also keeps the numbers of the lines that a
+/// violation may quote.
 #[derive(Drop)]
 pub struct Judge {
-    histories: Histories,
+    pub(crate) histories: Histories,
     // The text that each key held after each prefix of the longest history.
-    timelines: Timelines,
+    pub(crate) timelines: Timelines,
     // The submissions, the first replies and the executions of commands, by `identity_key`.
-    submissions: BTreeMap<u64, Submission>,
-    replies: BTreeMap<u64, Option<Text>>,
-    executions: BTreeMap<u64, Execution>,
-    // The commands that had a reply, in the order of their first replies. The first `settled_count` of them are known
-    // to be in the longest history.
-    with_reply: Vec<CommandId>,
-    settled_count: usize,
+    pub(crate) submissions: BTreeMap<u64, Submission>,
+    pub(crate) replies: BTreeMap<u64, FirstReply>,
+    pub(crate) executions: BTreeMap<u64, Execution>,
+    // The commands that had a reply other than `failed`, in the order of their first replies.
+    acknowledged: Vec<CommandId>,
+    settled: SettledCommands,
     // For each reader, the lowest number of commands of the longest history that it may have seen.
     floors: BTreeMap<u64, usize>,
-    // The number of different identities of submitted commands, and the number of lookups.
+    // The number of different identities of submitted commands, of commands with a reply, and of lookups.
     commands: u64,
+    replied: u64,
     lookups: u64,
 }
 
 impl Judge {
     ghost use Rattle.mencius_judge.specs.Counts.{AreCounts};
-    ghost use Rattle.mencius_judge.specs.Judged.{Breaks, HasSeenLog, IsJudged};
+    ghost use Rattle.mencius_judge.specs.Judged.{Breaks, HasSeen, HasSeenLog, IsJudged};
 
     /// Creates a judge that has seen nothing.
     pub fn new(alloc: Global) -> Result<Judge, NoMemory>
-        ensures { IfOk result (λ j. HasSeenLog j []) }
+        ensures { IfOk result (λ j. HasSeen j []) }
     {
         Ok(Judge {
-            histories: Histories::new(alloc)?,
+            histories: Histories::new(alloc),
             timelines: Timelines::new(alloc),
             submissions: BTreeMap::new(alloc),
             replies: BTreeMap::new(alloc),
             executions: BTreeMap::new(alloc),
-            with_reply: Vec::new(alloc),
-            settled_count: 0,
+            acknowledged: Vec::new(alloc),
+            settled: SettledCommands {
+                count: 0,
+                highest: 0,
+            },
             floors: BTreeMap::new(alloc),
             commands: 0,
+            replied: 0,
             lookups: 0,
         })
     }
 
-    /// Judges the next observation. Returns how it breaks a promise, or `None` if it breaks none.
+    /// Judges the observation of the next line. `line` is the number of the line, or any number by which you want to
+    /// find it again. Returns how the observation breaks a promise, or `None` if it breaks none.
     ///
-    /// Suppose that the judge has seen a log, which keeps all promises (`HasSeenLog`). If the result is `None`, the
-    /// judge has then seen the log with the observation, and this log keeps all promises too. If the result is a
-    /// violation, the observation shows it and breaks its promise. After a violation or `NoMemory`, nothing is known
-    /// about the judge.
-    pub fn observe(&mut self, observation: &Observation) -> Result<Option<Violation>, NoMemory>
-        ensures judged { IfOk result (λ x. (w : Log) → HasSeenLog self.old w
-            → IsJudged w observation.now x self.new) }
-        ensures kept { IfOk result (λ x. (w : Log) → HasSeenLog self.old w
-            → (IsNone x ↔ KeepsAll (observation.now ∷ w))) }
+    /// Suppose that the judge has seen some lines, which keep all promises (`HasSeen`). If the result is `None`, the
+    /// judge has then seen the new line too, and all lines together keep all promises. If the result is a violation, the
+    /// observation shows it and breaks its promise. The judge has then still seen the lines before, and
+    /// [`Judge::quotes`] returns the lines that show the violation. After `NoMemory`, nothing is known about the judge.
+    pub fn observe(
+        &mut self,
+        line: u64,
+        observation: &Observation,
+    ) -> Result<Option<Violation>, NoMemory>
+        ensures judged { IfOk result (λ x. (n : NumberedLog) → HasSeen self.old n
+            → IsJudged n (record { number = line; observation = observation.now }) x self.new) }
+        ensures kept { IfOk result (λ x. (n : NumberedLog) → HasSeen self.old n
+            → (IsNone x ↔ KeepsAll (observation.now ∷ log_of n))) }
     {
         match observation {
-            Observation::Submit { command } => self.submit(command),
-            Observation::Execute { server, id } => self.execute(*server, *id),
-            Observation::Reply { id, text } => self.reply(*id, text),
+            Observation::Submit { command } => self.submit(line, command),
+            Observation::Execute { server, id } => self.execute(line, *server, *id),
+            Observation::Reply { id, answer } => self.reply(line, *id, answer),
             Observation::Lookup { reader, key, text } => self.look_up(*reader, key, text),
             Observation::Tell { reader, server } => self.tell(*reader, *server),
+            Observation::Settle { server } => Ok(self.settle(*server)),
+            Observation::Restore {
+                server,
+                source,
+                count,
+            } => self.restore(line, *server, *source, *count),
         }
     }
 
-    /// Returns the counts of the log so far. It goes through all commands that had a reply.
+    /// Returns the counts of the log so far. It goes through all servers and all acknowledged commands.
     pub fn counts(&self) -> Counts
         ensures { (w : Log) → HasSeenLog self.now w → AreCounts w result }
     {
-        let with_reply = self.with_reply.as_slice();
         Counts {
             servers: self.histories.servers(),
             commands: self.commands,
             executed: self.histories.longest(),
-            replies: with_reply.len(),
-            open_replies: open_count(&self.executions, with_reply),
+            replies: self.replied,
+            open_replies: open_count(&self.executions, self.acknowledged.as_slice()),
             lookups: self.lookups,
+            shortest: self.histories.shortest(),
         }
     }
 
-    fn submit(&mut self, command: &Command) -> Result<Option<Violation>, NoMemory>
-        ensures { IfOk result (λ x. (w : Log) → HasSeenLog self.old w
-            → IsJudged w (Submit command.now) x self.new) }
+    fn submit(&mut self, line: u64, command: &Command) -> Result<Option<Violation>, NoMemory>
+        ensures { IfOk result (λ x. (n : NumberedLog) → HasSeen self.old n
+            → IsJudged n (record { number = line; observation = Submit command.now }) x self.new) }
     {
         let id = command.id();
         let key = identity_key(id);
@@ -150,32 +188,37 @@ impl Judge {
             }
             return Ok(Some(Violation::OneCommand { id }));
         }
-        let row = Submission::of(command, self.with_reply.len())?;
+        let row = Submission::of(command, self.acknowledged.len(), line)?;
         self.commands = one_more(self.commands)?;
         put(&mut self.submissions, key, row)?;
         Ok(None)
     }
 
-    fn execute(&mut self, server: u8, id: CommandId) -> Result<Option<Violation>, NoMemory>
-        ensures { IfOk result (λ x. (w : Log) → HasSeenLog self.old w
-            → IsJudged w (Execute server id) x self.new) }
+    fn execute(
+        &mut self,
+        line: u64,
+        server: u32,
+        id: CommandId,
+    ) -> Result<Option<Violation>, NoMemory>
+        ensures { IfOk result (λ x. (n : NumberedLog) → HasSeen self.old n
+            → IsJudged n (record { number = line; observation = Execute server id }) x self.new) }
     {
         match self.histories.next(server, id) {
             Next::Differs { expected } => Ok(Some(self.differing(server, id, expected))),
             Next::Follows => {
-                self.histories.follow(server);
+                self.histories.follow(line, server)?;
                 Ok(None)
             }
-            Next::Leads => self.lead(server, id),
+            Next::Leads => self.lead(line, server, id),
         }
     }
 
     // Returns the violation of a server that executes a command at a place where another server executed `expected`.
-    fn differing(&self, server: u8, id: CommandId, expected: CommandId) -> Violation
-        ensures { (w : Log) → HasSeenLog self.now w
-            → IsNext self.now.histories.order.items (get_or self.now.histories.counts.items server 0) id
-            (Differs expected)
-            → Breaks w (Execute server id) result }
+    fn differing(&self, server: u32, id: CommandId, expected: CommandId) -> Violation
+        ensures { (n : NumberedLog) → HasSeen self.now n
+            → IsNext self.now.histories.order.items
+            (count_of self.now.histories.places self.now.histories.rows.items server) id (Differs expected)
+            → Breaks (log_of n) (Execute server id) result }
     {
         if self.submissions.get(&identity_key(id)).is_none() {
             return Violation::Submitted { id };
@@ -189,10 +232,11 @@ impl Judge {
     }
 
     // Judges the execution of a command at a place that no server had reached.
-    fn lead(&mut self, server: u8, id: CommandId) -> Result<Option<Violation>, NoMemory>
-        ensures { IfOk result (λ x. (w : Log) → HasSeenLog self.old w
-            → IsNext self.old.histories.order.items (get_or self.old.histories.counts.items server 0) id Leads
-            → IsJudged w (Execute server id) x self.new) }
+    fn lead(&mut self, line: u64, server: u32, id: CommandId) -> Result<Option<Violation>, NoMemory>
+        ensures { IfOk result (λ x. (n : NumberedLog) → HasSeen self.old n
+            → IsNext self.old.histories.order.items
+            (count_of self.old.histories.places self.old.histories.rows.items server) id Leads
+            → IsJudged n (record { number = line; observation = Execute server id }) x self.new) }
     {
         let key = identity_key(id);
         let place = self.histories.count(server);
@@ -202,9 +246,9 @@ impl Judge {
         if self.executions.get(&key).is_some() {
             return Ok(Some(Violation::Once { server, place, id }));
         }
-        let with_reply = self.with_reply.as_slice();
-        self.settled_count = count_settled(&self.executions, with_reply, self.settled_count);
-        if let Some(behind) = first_unsettled(with_reply, self.settled_count, row.replies_before) {
+        let acknowledged = self.acknowledged.as_slice();
+        self.settled = count_settled(&self.executions, acknowledged, self.settled);
+        if let Some(behind) = first_unsettled(acknowledged, self.settled.count, row.acknowledged) {
             return Ok(Some(Violation::RealTime {
                 server,
                 place,
@@ -212,53 +256,48 @@ impl Judge {
                 behind,
             }));
         }
-        self.histories.lead(server, id)?;
-        let size = self.histories.longest();
-        let reply = self.timelines.execute(&row.command, size)?;
-        if let Some(found) = other_text(&self.replies, key, &reply) {
-            let found = copy_of(found)?;
-            return Ok(Some(Violation::RightReply {
-                id,
-                place,
-                expected: reply,
-                found,
-            }));
+        if let Some(violation) = wrong_before(
+            &self.timelines,
+            &self.replies,
+            key,
+            &row.command,
+            place,
+        )? {
+            return Ok(Some(violation));
         }
-        put(&mut self.executions, key, Execution { place, reply })?;
+        self.histories.lead(line, server, id)?;
+        let size = self.histories.longest();
+        let held = self.timelines.execute(&row.command, size)?;
+        put(&mut self.executions, key, Execution { place, held })?;
         Ok(None)
     }
 
-    fn reply(&mut self, id: CommandId, text: &Option<Text>) -> Result<Option<Violation>, NoMemory>
-        ensures { IfOk result (λ x. (w : Log) → HasSeenLog self.old w
-            → IsJudged w (Reply id text.now) x self.new) }
+    fn reply(
+        &mut self,
+        line: u64,
+        id: CommandId,
+        answer: &Answer,
+    ) -> Result<Option<Violation>, NoMemory>
+        ensures { IfOk result (λ x. (n : NumberedLog) → HasSeen self.old n
+            → IsJudged n (record { number = line; observation = Reply id answer.now }) x self.new) }
     {
         let key = identity_key(id);
-        if self.submissions.get(&key).is_none() {
+        let Some(row) = self.submissions.get(&key) else {
             return Ok(Some(Violation::Submitted { id }));
+        };
+        if let Some(first) = self.replies.get(&key) {
+            return other_reply(id, &first.answer, answer);
         }
-        let found = copy_of(text)?;
-        if let Some(expected) = other_text(&self.replies, key, text) {
-            let expected = copy_of(expected)?;
-            return Ok(Some(Violation::OneReply {
-                id,
-                expected,
-                found,
-            }));
+        if let Some(violation) = wrong_at_place(&self.executions, key, &row.command, answer)? {
+            return Ok(Some(violation));
         }
-        if let Some(execution) = other_execution(&self.executions, key, text) {
-            let expected = copy_of(&execution.reply)?;
-            return Ok(Some(Violation::RightReply {
-                id,
-                place: execution.place,
-                expected,
-                found,
-            }));
-        }
-        if self.replies.get(&key).is_some() {
-            return Ok(None);
-        }
-        self.with_reply.push(id)?;
-        put(&mut self.replies, key, found)?;
+        acknowledge(&mut self.acknowledged, id, answer)?;
+        self.replied = one_more(self.replied)?;
+        let first = FirstReply {
+            answer: copy_of_answer(answer)?,
+            line,
+        };
+        put(&mut self.replies, key, first)?;
         Ok(None)
     }
 
@@ -268,8 +307,8 @@ impl Judge {
         key: &Key,
         text: &Option<Text>,
     ) -> Result<Option<Violation>, NoMemory>
-        ensures { IfOk result (λ x. (w : Log) → HasSeenLog self.old w
-            → IsJudged w (Lookup reader key.now text.now) x self.new) }
+        ensures { IfOk result (λ x. (n : NumberedLog) (line : ℕ) → HasSeen self.old n
+            → IsJudged n (record { number = line; observation = Lookup reader key.now text.now }) x self.new) }
     {
         let from = floor_of(&self.floors, reader);
         let to = self.histories.longest();
@@ -287,12 +326,51 @@ impl Judge {
         Ok(None)
     }
 
-    fn tell(&mut self, reader: u32, server: u8) -> Result<Option<Violation>, NoMemory>
-        ensures { IfOk result (λ x. (w : Log) → HasSeenLog self.old w
-            → IsJudged w (Tell reader server) x self.new) }
+    fn tell(&mut self, reader: u32, server: u32) -> Result<Option<Violation>, NoMemory>
+        ensures { IfOk result (λ x. (n : NumberedLog) (line : ℕ) → HasSeen self.old n
+            → IsJudged n (record { number = line; observation = Tell reader server }) x self.new) }
     {
         let floor = floor_of(&self.floors, reader).max(self.histories.count(server));
         put(&mut self.floors, u64::from(reader), floor)?;
+        Ok(None)
+    }
+
+    fn settle(&mut self, server: u32) -> Option<Violation>
+        ensures { (n : NumberedLog) (line : ℕ) → HasSeen self.old n
+            → IsJudged n (record { number = line; observation = Settle server }) result self.new }
+    {
+        let acknowledged = self.acknowledged.as_slice();
+        self.settled = count_settled(&self.executions, acknowledged, self.settled);
+        // If some acknowledged command is in no history, this server lacks it.
+        if let Some(id) = id_at(acknowledged, self.settled.count) {
+            return Some(Violation::Settled { server, id });
+        }
+        let reached = self.histories.count(server);
+        if self.settled.count > 0 && self.settled.highest >= reached {
+            let id = id_at(self.histories.order.as_slice(), self.settled.highest)?;
+            return Some(Violation::Settled { server, id });
+        }
+        None
+    }
+
+    fn restore(
+        &mut self,
+        line: u64,
+        server: u32,
+        source: u32,
+        count: u32,
+    ) -> Result<Option<Violation>, NoMemory>
+        ensures { IfOk result (λ x. (n : NumberedLog) → HasSeen self.old n
+            → IsJudged n (record { number = line; observation = Restore server source count }) x self.new) }
+    {
+        if self.histories.count(server) > 0 || self.histories.count(source) < count as usize {
+            return Ok(Some(Violation::Restore {
+                server,
+                source,
+                count,
+            }));
+        }
+        self.histories.restore(line, server, source, count)?;
         Ok(None)
     }
 }
@@ -313,96 +391,4 @@ fn put<V: Drop>(map: &mut BTreeMap<u64, V>, key: u64, value: V) -> Result<(), No
 {
     map.insert(key, value)?;
     Ok(())
-}
-
-// Returns the text that the map has at a number, if it differs from `text`.
-fn other_text<'a>(
-    texts: &'a BTreeMap<u64, Option<Text>>,
-    key: u64,
-    text: &Option<Text>,
-) -> Option<&'a Option<Text>>
-    ensures { MatchOption result (IsNoOther texts.now key text.now)
-        (λ known. (get nat_cmp texts.now key ≡ Some known.now) × (known.now ≢ text.now)) }
-{
-    match texts.get(&key) {
-        Some(known) => {
-            if is_same_text(known, text) {
-                return None;
-            }
-            Some(known)
-        }
-        None => None,
-    }
-}
-
-// Returns the execution that the map has at a number, if its reply differs from `text`.
-fn other_execution<'a>(
-    executions: &'a BTreeMap<u64, Execution>,
-    key: u64,
-    text: &Option<Text>,
-) -> Option<&'a Execution>
-    ensures { MatchOption result (IsNoOtherExecution executions.now key text.now)
-        (λ known. (get nat_cmp executions.now key ≡ Some known.now) × (known.now.reply ≢ text.now)) }
-{
-    match executions.get(&key) {
-        Some(known) => {
-            if is_same_text(&known.reply, text) {
-                return None;
-            }
-            Some(known)
-        }
-        None => None,
-    }
-}
-
-// Returns the place of the first command with a reply that was not executed, or the number of all commands with a
-// reply. The first `start` of them must be known to be executed.
-fn count_settled(
-    executions: &BTreeMap<u64, Execution>,
-    with_reply: &[CommandId],
-    start: usize,
-) -> usize
-    ensures settled { AreSettled with_reply.now executions.now start
-        → AreSettled with_reply.now executions.now result }
-    ensures all { (id : CommandId) → slice_get with_reply.now result ≡ Some id
-        → get nat_cmp executions.now (identity_key id) ≡ None }
-{
-    for place in start..with_reply.len() {
-        if !is_settled(executions, with_reply, place) {
-            return place;
-        }
-    }
-    with_reply.len()
-}
-
-// Returns whether the command at this place of `with_reply` was executed.
-fn is_settled(executions: &BTreeMap<u64, Execution>, with_reply: &[CommandId], place: usize) -> bool
-    ensures { IsTrue result ↔ IsSettledAt with_reply.now executions.now place }
-{
-    match with_reply.get(place) {
-        Some(id) => executions.contains_key(&identity_key(*id)),
-        None => false,
-    }
-}
-
-// Returns the number of commands with a reply that were not executed.
-fn open_count(executions: &BTreeMap<u64, Execution>, with_reply: &[CommandId]) -> usize
-    ensures { result ≡ count_by (has_no_place executions.now) with_reply.now }
-{
-    with_reply
-        .iter()
-        .filter(|id| !executions.contains_key(&identity_key(**id)))
-        .count()
-}
-
-// Returns the first command with a reply that was not executed, if it is one of the first `behind` commands with a
-// reply.
-fn first_unsettled(with_reply: &[CommandId], settled: usize, behind: usize) -> Option<CommandId>
-    ensures { MatchOption result (settled < behind → length with_reply.now ≤ settled)
-        (λ id. (settled < behind) × (slice_get with_reply.now settled ≡ Some id)) }
-{
-    if settled < behind {
-        return with_reply.get(settled).copied();
-    }
-    None
 }

@@ -5,6 +5,7 @@
 //! for an order. Each observation costs only a few lookups in maps.
 #![tactic(auto)]
 
+mod answers;
 mod counts;
 mod histories;
 mod judge;
@@ -14,9 +15,15 @@ mod log_reader;
 mod observation;
 mod observation_lines;
 mod operations;
+mod quote;
+mod quotes;
+mod reply_checks;
+mod sentences;
+mod settled;
 mod texts;
 mod timeline;
 mod timelines;
+mod verdict_json;
 mod verdict_lines;
 mod violation;
 mod wrong;
@@ -25,7 +32,9 @@ pub use counts::Counts;
 pub use judge::Judge;
 pub use line::{parse_line, parse_observation};
 pub use log_reader::{Breach, Verdict, judge_log};
-pub use observation::Observation;
+pub use observation::{Answer, Observation};
 pub use observation_lines::push_observation;
-pub use verdict_lines::{push_broken, push_kept};
+pub use quote::Quote;
+pub use verdict_json::push_json;
+pub use verdict_lines::{push_broken, push_explanation, push_kept, push_unjudged};
 pub use violation::{Promise, Violation};

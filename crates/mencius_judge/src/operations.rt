@@ -61,8 +61,8 @@ pub fn text_after(former: &Option<Text>, op: &Op) -> Result<Option<Text>, NoMemo
     }
 }
 
-// Returns whether there is a former text, and it is exactly `held`.
-fn has_text(former: &Option<Text>, held: &Text) -> bool
+/// Returns whether there is a former text, and it is exactly `held`.
+pub fn has_text(former: &Option<Text>, held: &Text) -> bool
     ensures { result ≡ has_text former.now held.now }
 {
     match former {

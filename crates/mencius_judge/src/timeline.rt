@@ -1,6 +1,6 @@
-ghost use Rattle.std.specs.Prelude.{◌≡◌, ◌≢◌, ◌++◌, ◌∷◌, ℕ, List, [], OnOk, MatchOption, Option};
+ghost use Rattle.std.specs.Prelude.{◌≡◌, ◌≢◌, ◌≤◌, ◌++◌, ◌∷◌, ℕ, List, [], OnOk, MatchOption, Option};
 ghost use Rattle.std.specs.BTreeMap.{get_by_text};
-ghost use Rattle.mencius_judge.specs.Timelines.{HasNone, IsFirstCount, IsFirstPeriod, IsTimeline, AreRising, AllBefore, items_of, periods_of};
+ghost use Rattle.mencius_judge.specs.Timelines.{HasNone, IsBeginning, IsFirstCount, IsFirstPeriod, IsTimeline, AreRising, AllBefore, items_of, periods_of};
 
 use crate::texts::is_same_text;
 use mencius_base::{NoMemory, Text};
@@ -82,6 +82,17 @@ impl Timeline {
             return Some(self.since.max(from));
         }
         None
+    }
+
+    /// Returns the number of commands after which the key began to hold the text that it held after `count` commands.
+    pub fn began(&self, text: &Option<Text>, count: usize) -> usize
+        ensures { (held : ℕ → Option (List ℕ)) (to : ℕ) → IsTimeline held to self.now → count ≤ to
+            → held count ≡ text.now → IsBeginning held count result }
+    {
+        match self.first_period(text, count) {
+            Some(period) => period.first,
+            None => self.since,
+        }
     }
 
     // Returns the first period of a text that contains `from` or begins after it.

@@ -2,7 +2,7 @@ ghost use Rattle.std.specs.Prelude.{◌≡◌, ◌≢◌, ◌++◌, ◌∷◌, �
 ghost use Rattle.std.specs.BTreeMap.{get_by_text};
 ghost use Rattle.mencius_base.specs.declared.command.Command.{Command};
 ghost use Rattle.mencius_model.specs.KeyMap.{out};
-ghost use Rattle.mencius_judge.specs.Timelines.{AreTimelines, HasNone, IsFirstCount, IsTimelineOf, held_by, text_of};
+ghost use Rattle.mencius_judge.specs.Timelines.{AreTimelines, HasNone, IsBeginning, IsFirstCount, IsTimelineOf, held_by, text_of};
 
 use crate::operations::{key_of, text_after};
 use crate::texts::{copy_of, is_same_text};
@@ -65,6 +65,40 @@ impl Timelines {
         }
     }
 
+    /// Returns a copy of the text that the key of a command holds now.
+    pub fn text_before(&self, command: &Command) -> Result<Option<Text>, NoMemory>
+        ensures { IfOk result (λ reply. (cs : List Command) → AreTimelines cs self.now.by_key
+            → reply ≡ out cs command.now) }
+    {
+        let op = command.op();
+        let key = key_of(op);
+        let text = self.text_of(key)?;
+        Ok(text)
+    }
+
+    /// Returns the number of commands after which a key began to hold the text that it held after `count` commands, or
+    /// 0 if it has held this text from the beginning. The key must have held this text after `count` commands.
+    pub fn began(&self, key: &str, text: &Option<Text>, count: usize) -> usize
+        ensures { (cs : List Command) → AreTimelines cs self.now.by_key → count ≤ length cs
+            → held_by cs key.now count ≡ text.now → IsBeginning (held_by cs key.now) count result }
+    {
+        match self.by_key.get(key) {
+            Some(timeline) => timeline.began(text, count),
+            None => 0,
+        }
+    }
+
+    /// Returns the number of commands after which a key began to hold its present text, or 0 if it was never changed.
+    pub fn changed(&self, key: &str) -> usize
+        ensures { (cs : List Command) → AreTimelines cs self.now.by_key
+            → IsBeginning (held_by cs key.now) (length cs) result }
+    {
+        match self.by_key.get(key) {
+            Some(timeline) => timeline.since,
+            None => 0,
+        }
+    }
+
     // Returns a copy of the text that a key holds now.
     fn text_of(&self, key: &str) -> Result<Option<Text>, NoMemory>
         ensures { IfOk result (λ text. text ≡ text_of (get_by_text self.now.by_key key.now)) }
@@ -79,7 +113,7 @@ impl Timelines {
     fn change(&mut self, key: &str, text: Option<Text>, count: usize) -> Result<(), NoMemory>
         ensures own { OnOk result ((held after : ℕ → Option (List ℕ)) (n : ℕ)
             → IsTimelineOf held n (get_by_text self.old.by_key key.now) → n + 1 ≡ count
-            → ((m : ℕ) → m ≤ n → after m ≡ held m) → after count ≡ text
+            → ((m : ℕ) → m ≤ n → after m ≡ held m) → after count ≡ text → after count ≢ held n
             → IsTimelineOf after count (get_by_text self.new.by_key key.now)) }
         ensures others { OnOk result ((x : List ℕ) → x ≢ key.now
             → get_by_text self.new.by_key x ≡ get_by_text self.old.by_key x) }

@@ -1,6 +1,7 @@
 ghost use Rattle.std.specs.Prelude.{◌≡◌};
 ghost use Rattle.mencius_judge.specs.Violations.{promise_of};
 
+use crate::observation::Answer;
 use mencius_base::{CommandId, Key, Text};
 
 /// A promise of a store.
@@ -14,16 +15,21 @@ pub enum Promise {
     Once,
     /// One of the histories of any two servers is a prefix of the other.
     SameOrder,
-    /// If a command in a history was first submitted after another one had its reply, the other one comes before it.
+    /// If a command in a history was first submitted after another one had a reply other than `failed`, the other one
+    /// comes before it.
     RealTime,
     /// All replies to a command are the same.
     OneReply,
-    /// A reply is the text that a map holds at the command's key after it has executed exactly the commands before it
-    /// in a history.
+    /// A reply is right for the text that a map holds at the command's key after it has executed exactly the commands
+    /// before it in a history.
     RightReply,
     /// A lookup finds the text that its key held after a prefix of a history. This prefix contains everything that the
     /// reader saw or was told of before.
     RightLookup,
+    /// A server that is said to be settled has all commands that had a reply other than `failed` before.
+    Settled,
+    /// A server that takes over commands of another server has no history, and the other server has that many commands.
+    Restore,
 }
 
 /// How an observation breaks a promise. Places in a history count from 0.
@@ -39,13 +45,13 @@ pub enum Violation {
     },
     /// The server executed the command at this place, but had already executed it before.
     Once {
-        server: u8,
+        server: u32,
         place: usize,
         id: CommandId,
     },
     /// The server executed the command `found` at this place, but another server executed `expected` there.
     SameOrder {
-        server: u8,
+        server: u32,
         place: usize,
         expected: CommandId,
         found: CommandId,
@@ -53,7 +59,7 @@ pub enum Violation {
     /// The server executed the command at this place, but had not executed `behind`. That command had its reply when
     /// this one was first submitted.
     RealTime {
-        server: u8,
+        server: u32,
         place: usize,
         id: CommandId,
         behind: CommandId,
@@ -61,16 +67,16 @@ pub enum Violation {
     /// The command has the reply `found`, but its first reply was `expected`.
     OneReply {
         id: CommandId,
-        expected: Option<Text>,
-        found: Option<Text>,
+        expected: Answer,
+        found: Answer,
     },
-    /// The command has the reply `found`, but a map that executes the history returns `expected` at the command's
-    /// place.
+    /// The command has the reply `found`, but a map that executes the history holds `expected` at the command's key
+    /// and place.
     RightReply {
         id: CommandId,
         place: usize,
         expected: Option<Text>,
-        found: Option<Text>,
+        found: Answer,
     },
     /// The reader had seen the first `from` commands of the longest history, which has `to` commands. The key did not
     /// hold the text `found` after any number of commands from `from` to `to`.
@@ -80,6 +86,18 @@ pub enum Violation {
         from: usize,
         to: usize,
         found: Option<Text>,
+    },
+    /// The server is said to be settled, but does not have this command, which was acknowledged before.
+    Settled {
+        server: u32,
+        id: CommandId,
+    },
+    /// The server takes over the first `count` commands of the server `source`. But it has a history, or `source` has
+    /// fewer commands.
+    Restore {
+        server: u32,
+        source: u32,
+        count: u32,
     },
 }
 
@@ -97,6 +115,8 @@ impl Violation {
             Violation::OneReply { .. } => Promise::OneReply,
             Violation::RightReply { .. } => Promise::RightReply,
             Violation::RightLookup { .. } => Promise::RightLookup,
+            Violation::Settled { .. } => Promise::Settled,
+            Violation::Restore { .. } => Promise::Restore,
         }
     }
 }

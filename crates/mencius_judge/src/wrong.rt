@@ -1,57 +1,98 @@
-//! Explains the fault of a line to a person. The functions that read servers, readers and identities also check them
-//! here.
+//! Explains the fault of a line to a person. The functions that read numbers and identities also check them here.
 
-use crate::line::MOST_LINE_BYTES;
-use mencius_base::{MOST_KEY_BYTES, MOST_TEXT_BYTES, is_name};
-use mencius_format::{
-    NO_OPERATION, Part, cut_at_space, operands_of, parse_id, parse_u8, parse_u32,
-};
+use crate::line::{MOST_LINE_BYTES, without_return};
+use mencius_base::{MOST_KEY_BYTES, MOST_TEXT_BYTES, NoMemory, is_name};
+use mencius_format::{NO_OPERATION, Part, cut_at_space, operands_of, parse_id, parse_u32, shown};
 use mencius_io::IoFault;
-
-/// The explanation of a line that is too long.
-pub(crate) const TOO_LONG: &str = "it is longer than 1,024 bytes";
+use std::alloc::Global;
 
 // The kind of a word after the first one of an observation.
 #[derive(Clone, Copy, Debug)]
 enum Word {
     Server,
+    Source,
+    Count,
     Reader,
     Id,
     Key,
     Text,
+    Found,
     Answer,
+}
+
+/// Returns the explanation of a line that is too long.
+pub(crate) fn too_long(alloc: Global) -> Result<String, NoMemory> {
+    Ok(String::from_str(alloc, "it is longer than 1,024 bytes")?)
+}
+
+/// Returns the explanation of a last line without a line feed.
+pub(crate) fn cut_short(alloc: Global, line: &[u8]) -> Result<String, NoMemory> {
+    let words = "the log ends in it, and a line feed must follow its last word";
+    match str::from_utf8(line) {
+        Ok(text) => {
+            let word = shown(alloc, last_word(text))?;
+            Ok(format!(in alloc; "{words}: {word}")?)
+        }
+        Err(_) => Ok(String::from_str(alloc, words)?),
+    }
+}
+
+fn last_word(text: &str) -> &str {
+    match text.rsplit_once(' ') {
+        Some((_, word)) => word,
+        None => text,
+    }
 }
 
 /// Returns the explanation of a line that has this fault. It is about the first word that has the fault, if the line is
 /// UTF-8 and not too long.
-pub(crate) fn wrong_line(line: &[u8], fault: IoFault) -> &'static str {
+pub(crate) fn wrong_line(alloc: Global, line: &[u8], fault: IoFault) -> Result<String, NoMemory> {
     if line.len() > MOST_LINE_BYTES {
-        return TOO_LONG;
+        return too_long(alloc);
     }
-    match str::from_utf8(line) {
-        Ok(text) => wrong_text(text, fault),
-        Err(_) => "it is not UTF-8",
+    match str::from_utf8(without_return(line)) {
+        Ok(text) => wrong_text(alloc, text, fault),
+        Err(_) => Ok(String::from_str(alloc, "it is not UTF-8")?),
     }
 }
 
-fn wrong_text(text: &str, fault: IoFault) -> &'static str {
+fn wrong_text(alloc: Global, text: &str, fault: IoFault) -> Result<String, NoMemory> {
     let mut left = Some(text);
     let first = next_word(&mut left).unwrap_or("");
     let Some(words) = words_behind(first) else {
-        return "it does not begin with submit, execute, reply, lookup or told";
+        return unknown(alloc, first);
     };
-    if let Some(wrong) = wrong_words(words, &mut left, fault) {
-        return wrong;
+    if let Some(wrong) = wrong_words(alloc, words, &mut left, fault)? {
+        return Ok(wrong);
     }
     if first == "submit" {
-        if let Some(wrong) = wrong_operation(&mut left, fault) {
-            return wrong;
+        if let Some(wrong) = wrong_operation(alloc, &mut left, fault)? {
+            return Ok(wrong);
         }
     }
-    if left.is_some() {
-        return "there is a word too many";
+    left_over(alloc, &mut left)
+}
+
+fn unknown(alloc: Global, first: &str) -> Result<String, NoMemory> {
+    if first.is_empty() {
+        return Ok(String::from_str(alloc, "it begins with a space")?);
     }
-    "a word of it is wrong"
+    let word = shown(alloc, first)?;
+    Ok(format!(in alloc;
+        "no line begins with {word}: each begins with submit, execute, reply, lookup, told, settled or restore"
+    )?)
+}
+
+// Explains the words that are left after the last word of an observation.
+fn left_over(alloc: Global, left: &mut Option<&str>) -> Result<String, NoMemory> {
+    match next_word(left) {
+        Some("") => Ok(String::from_str(alloc, "there is a space too many")?),
+        Some(word) => {
+            let word = shown(alloc, word)?;
+            Ok(format!(in alloc; "there is a word too many: {word}")?)
+        }
+        None => Ok(String::from_str(alloc, "a word of it is wrong")?),
+    }
 }
 
 // Returns the kinds of the words after the first one, up to the operation of a command. Returns `None` if no
@@ -61,8 +102,10 @@ fn words_behind(first: &str) -> Option<&'static [Word]> {
         "submit" => Some(&[Word::Id]),
         "execute" => Some(&[Word::Server, Word::Id]),
         "reply" => Some(&[Word::Id, Word::Answer]),
-        "lookup" => Some(&[Word::Reader, Word::Key, Word::Answer]),
+        "lookup" => Some(&[Word::Reader, Word::Key, Word::Found]),
         "told" => Some(&[Word::Reader, Word::Server]),
+        "settled" => Some(&[Word::Server]),
+        "restore" => Some(&[Word::Server, Word::Source, Word::Count]),
         _ => None,
     }
 }
@@ -83,45 +126,56 @@ fn next_word<'a>(left: &mut Option<&'a str>) -> Option<&'a str> {
 }
 
 // Explains the first of these words that has the fault or is missing.
-fn wrong_words(words: &[Word], left: &mut Option<&str>, fault: IoFault) -> Option<&'static str> {
+fn wrong_words(
+    alloc: Global,
+    words: &[Word],
+    left: &mut Option<&str>,
+    fault: IoFault,
+) -> Result<Option<String>, NoMemory> {
     for word in words {
         let Some(text) = next_word(left) else {
-            return Some(missing(*word));
+            return Ok(Some(missing(alloc, *word)?));
         };
         if has_fault(*word, text, fault) {
-            return Some(rule_of(*word));
+            return Ok(Some(wrong_word(alloc, *word, text)?));
         }
     }
-    None
+    Ok(None)
 }
 
 // Explains the operation, or the first of its words that has the fault or is missing.
-fn wrong_operation(left: &mut Option<&str>, fault: IoFault) -> Option<&'static str> {
-    let Some(operands) = operands_of(next_word(left).unwrap_or("")) else {
-        return Some(NO_OPERATION);
+fn wrong_operation(
+    alloc: Global,
+    left: &mut Option<&str>,
+    fault: IoFault,
+) -> Result<Option<String>, NoMemory> {
+    let Some(operation) = next_word(left) else {
+        return Ok(Some(String::from_str(alloc, "the operation is missing")?));
+    };
+    let Some(operands) = operands_of(operation) else {
+        let word = shown(alloc, operation)?;
+        return Ok(Some(format!(in alloc; "{NO_OPERATION}: {word}")?));
     };
     for part in operands {
         let word = match part {
             Part::Key => Word::Key,
             _ => Word::Text,
         };
-        let Some(text) = next_word(left) else {
-            return Some(missing(word));
-        };
-        if has_fault(word, text, fault) {
-            return Some(rule_of(word));
+        if let Some(wrong) = wrong_words(alloc, &[word], left, fault)? {
+            return Ok(Some(wrong));
         }
     }
-    None
+    Ok(None)
 }
 
 fn has_fault(word: Word, text: &str, fault: IoFault) -> bool {
     match word {
-        Word::Server => parse_u8(text).err() == Some(fault),
-        Word::Reader => parse_u32(text).err() == Some(fault),
+        Word::Server | Word::Source | Word::Count | Word::Reader => parse_u32(text).err()
+            == Some(fault),
         Word::Id => parse_id(text).err() == Some(fault),
         Word::Key => named_fault(text, 1, MOST_KEY_BYTES) == Some(fault),
         Word::Text => named_fault(text, 0, MOST_TEXT_BYTES) == Some(fault),
+        Word::Found => found_fault(text) == Some(fault),
         Word::Answer => answer_fault(text) == Some(fault),
     }
 }
@@ -137,7 +191,7 @@ fn named_fault(text: &str, least: usize, most: usize) -> Option<IoFault> {
     None
 }
 
-fn answer_fault(text: &str) -> Option<IoFault> {
+fn found_fault(text: &str) -> Option<IoFault> {
     if text == "none" {
         return None;
     }
@@ -147,26 +201,52 @@ fn answer_fault(text: &str) -> Option<IoFault> {
     }
 }
 
-fn rule_of(word: Word) -> &'static str {
-    match word {
-        Word::Server => "the server is not a number from 0 to 255",
-        Word::Reader => "the reader is not a number from 0 to 4294967295",
-        Word::Id => "the command ID is not CLIENT.NUMBER, each a number from 0 to 4294967295",
-        Word::Key => "the key is not 1 to 64 ASCII letters, digits, `_`, `-` or `.`",
-        Word::Text => "the text is not 0 to 256 ASCII letters, digits, `_`, `-` or `.`",
-        Word::Answer => {
-            "the answer is neither `none` nor `=` and 0 to 256 ASCII letters, digits, `_`, `-` or `.`"
-        }
+fn answer_fault(text: &str) -> Option<IoFault> {
+    match text {
+        "ok" | "failed" => None,
+        _ => found_fault(text),
     }
 }
 
-fn missing(word: Word) -> &'static str {
+fn name_of(word: Word) -> &'static str {
     match word {
-        Word::Server => "the server is missing",
-        Word::Reader => "the reader is missing",
-        Word::Id => "the command ID is missing",
-        Word::Key => "the key is missing",
-        Word::Text => "a text is missing: an empty one has a space before it",
-        Word::Answer => "the answer is missing",
+        Word::Server => "the server",
+        Word::Source => "the server of the snapshot",
+        Word::Count => "the number of commands",
+        Word::Reader => "the reader",
+        Word::Id => "the command ID",
+        Word::Key => "the key",
+        Word::Text => "the text",
+        Word::Found | Word::Answer => "the answer",
     }
+}
+
+// Returns the words that say what can be in the place of a word.
+fn rule_of(word: Word) -> &'static str {
+    match word {
+        Word::Server | Word::Source | Word::Count | Word::Reader => "a number from 0 to 4294967295",
+        Word::Id => "CLIENT.NUMBER, each a number from 0 to 4294967295",
+        Word::Key => "1 to 64 ASCII letters, digits, `_`, `-` or `.`",
+        Word::Text => "0 to 256 ASCII letters, digits, `_`, `-` or `.`",
+        Word::Found => "`none`, or `=` and 0 to 256 ASCII letters, digits, `_`, `-` or `.`",
+        Word::Answer =>
+            "`ok`, `failed`, `none`, or `=` and 0 to 256 ASCII letters, digits, `_`, `-` or `.`",
+    }
+}
+
+fn wrong_word(alloc: Global, word: Word, text: &str) -> Result<String, NoMemory> {
+    let name = name_of(word);
+    let rule = rule_of(word);
+    let text = shown(alloc, text)?;
+    Ok(format!(in alloc; "{name} is not {rule}: {text}")?)
+}
+
+fn missing(alloc: Global, word: Word) -> Result<String, NoMemory> {
+    if let Word::Text = word {
+        let words = "a text is missing: an empty one has a space before it";
+        return Ok(String::from_str(alloc, words)?);
+    }
+    let name = name_of(word);
+    let rule = rule_of(word);
+    Ok(format!(in alloc; "{name} is missing: it is {rule}")?)
 }

@@ -134,8 +134,16 @@ key_cases x y = ⊎_elim
 abbrev pub IsChange : BTreeMap (String Global) Timeline → BTreeMap (String Global) Timeline → List ℕ → Option (List ℕ) → ℕ → Type 0
 IsChange by_key new key text count =
     ((held after : ℕ → Option (List ℕ)) (n : ℕ) → IsTimelineOf held n (get_by_text by_key key) → n + 1 ≡ count
-    → ((m : ℕ) → m ≤ n → after m ≡ held m) → after count ≡ text → IsTimelineOf after count (get_by_text new key))
+    → ((m : ℕ) → m ≤ n → after m ≡ held m) → after count ≡ text → after count ≢ held n
+    → IsTimelineOf after count (get_by_text new key))
     × ((x : List ℕ) → x ≢ key → get_by_text new x ≡ get_by_text by_key x)
+
+-- the timelines have the text that the key of a command holds now
+pub held_now : (cs : List Command) (c : Command) (by_key : BTreeMap (String Global) Timeline) (held : Option (List ℕ))
+    → AreTimelines cs by_key → held ≡ text_of (get_by_text by_key (key_of c.op)) → held ≡ value_at (key_of c.op) cs
+held_now cs c by_key held h is =
+    is ∙ text_now (held_by cs (key_of c.op)) (length cs) (get_by_text by_key (key_of c.op)) (h (key_of c.op))
+    ∙ held_all cs (key_of c.op)
 
 module _ (cs : List Command) (c : Command) (by_key new : BTreeMap (String Global) Timeline) (held text : Option (List ℕ))
     (h : AreTimelines cs by_key) (is : held ≡ text_of (get_by_text by_key (key_of c.op))) (becomes : Becomes held c.op text) where
@@ -148,12 +156,12 @@ module _ (cs : List Command) (c : Command) (by_key new : BTreeMap (String Global
   after_is : held_by (cs ++ c ∷ []) (key_of c.op) (length cs + 1) ≡ text
   after_is = last cs c (key_of c.op) ∙ sym (becomes (map_after cs) (sym answer_is))
 
-  pub with_change : IsChange by_key new (key_of c.op) text (length cs + 1) → AreTimelines (cs ++ c ∷ []) new
-  with_change change = counted cs c new (λ key. ⊎_elim
+  pub with_change : held ≢ text → IsChange by_key new (key_of c.op) text (length cs + 1) → AreTimelines (cs ++ c ∷ []) new
+  with_change other change = counted cs c new (λ key. ⊎_elim
       (λ (e : key ≡ key_of c.op).
       subst (λ (x : List ℕ). IsTimelineOf (held_by (cs ++ c ∷ []) x) (length cs + 1) (get_by_text new x)) (sym e)
       (change.0 (held_by cs (key_of c.op)) (held_by (cs ++ c ∷ []) (key_of c.op)) (length cs) (h (key_of c.op)) refl
-      (λ m le. held_kept cs c (key_of c.op) m le) after_is))
+      (λ m le. held_kept cs c (key_of c.op) m le) after_is (λ same. other (held_is ∙ sym same ∙ after_is))))
       (λ (ne : key ≢ key_of c.op).
       subst (IsTimelineOf (held_by (cs ++ c ∷ []) key) (length cs + 1)) (sym (change.1 key ne))
       (quiet cs c key (get_by_text by_key key) (h key) (held_elsewhere cs c key ne)))

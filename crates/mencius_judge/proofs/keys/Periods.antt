@@ -6,7 +6,7 @@ use Rattle.std.proofs.lemmas.Slice.Eq.{bytes_eq-Decides}
 use Rattle.std.specs.Str.{bytes_eq}
 use Rattle.mencius_judge.specs.declared.timeline.Period.{Period}
 use Rattle.mencius_judge.specs.declared.timeline.Timeline.{Timeline}
-use Rattle.mencius_judge.specs.Timelines.{AllBefore, AreRising, HasNone, IsFirstCount, IsFirstPeriod, IsTimeline, periods_of}
+use Rattle.mencius_judge.specs.Timelines.{AllBefore, AreRising, HasNone, IsBeginning, IsFirstCount, IsFirstPeriod, IsTimeline, IsTimelineOf, periods_of}
 
 -- ---- items of lists
 
@@ -167,6 +167,78 @@ module _ (held : ℕ → Option (List ℕ)) (to : ℕ) (t : Timeline) (h : IsTim
         (λ (le : t.since ≤ m). other (omega (arith, low, high)) (sym (h.now m le high) ∙ same))
         (less_or m t.since)
 
+-- ---- the beginning of a text
+
+module _ (held : ℕ → Option (List ℕ)) (to : ℕ) (t : Timeline) (h : IsTimeline held to t) where
+  -- the present text began with the last change
+  pub present_began : IsBeginning held to t.since
+  present_began =
+      let since = h.since in
+      let present = h.now to since (omega arith) in
+      record {
+        within = since;
+        same = λ m low high. h.now m low high ∙ sym present;
+        change = λ m e same. h.began m e (same ∙ present);
+      }
+
+  module _ (text : Option (List ℕ)) (n : ℕ) (fits : n ≤ to) (is : held n ≡ text) where
+    pub period_began : (p : Period) → IsFirstPeriod (periods_of t text) n p → IsBeginning held n p.first
+    period_began p first = record {
+      within = within;
+      same = λ m low high.
+          let stop = first.later in
+          h.holds text first.index p first.there m low (omega (arith, high, stop)) ∙ sym is;
+      change = λ m e same. h.begins text first.index p first.there m e (same ∙ is);
+    }
+      where
+        early : n < t.since → p.first ≤ n
+        early less =
+            let r = h.all text n less is in
+            ⊎_elim (λ (before : r.0 < first.index).
+            let stop = first.first r.0 r.1 before r.2 in absurd (omega (arith, stop, r.4)))
+            (λ (rest : (r.0 ≡ first.index) ⊎ (first.index < r.0)). ⊎_elim
+            (λ (e : r.0 ≡ first.index).
+            let both : Some r.1 ≡ Some p = sym r.2 ∙ ap (slice_get (periods_of t text)) e ∙ first.there in
+            let one : r.1 ≡ p = cc in
+            let start : r.1.first ≡ p.first = ap (λ (q : Period). q.first) one in
+            omega (arith, start, r.3))
+            (λ (late : first.index < r.0).
+            let apart = (h.rising text).apart first.index r.0 p r.1 late first.there r.2 in
+            let stop = first.later in
+            absurd (omega (arith, apart, r.3, stop)))
+            rest)
+            (three r.0 first.index)
+
+        within : p.first ≤ n
+        within = ⊎_elim (λ (less : n < t.since). early less)
+            (λ (late : t.since ≤ n).
+            let end = h.before text first.index p first.there in
+            let stop = first.later in
+            absurd (omega (arith, late, end, stop)))
+            (less_or n t.since)
+
+    pub none_began : AllBefore (periods_of t text) n → IsBeginning held n t.since
+    none_began before = record {
+      within = late;
+      same = λ m low high. h.now m low (omega (arith, high, fits)) ∙ sym (h.now n late fits);
+      change = λ m e same. h.began m e (same ∙ h.now n late fits);
+    }
+      where
+        late : t.since ≤ n
+        late = ⊎_elim (λ (less : n < t.since).
+            let r = h.all text n less is in
+            let stop = before r.0 r.1 r.2 in
+            absurd (omega (arith, stop, r.4)))
+            (λ (le : t.since ≤ n). le) (less_or n t.since)
+
+-- a key without a timeline has held no text from the beginning
+pub never_began : (held : ℕ → Option (List ℕ)) (to n : ℕ) → IsTimelineOf held to None → n ≤ to → IsBeginning held n 0
+never_began held to n h fits = record {
+  within = omega arith;
+  same = λ m low high. h m (omega (arith, high, fits)) ∙ sym (h n fits);
+  change = λ m e same. absurd (omega (arith, e));
+}
+
 -- ---- a further change
 
 pub text_cases : (x y : Option (List ℕ)) → (x ≡ y) ⊎ (x ≢ y)
@@ -182,7 +254,7 @@ text_cases (Some x) (Some y) = ⊎_elim
 
 module _ (held after : ℕ → Option (List ℕ)) (n : ℕ) (t new : Timeline) (h : IsTimeline held n t)
     (kept : (m : ℕ) → m ≤ n → after m ≡ held m) (text : Option (List ℕ)) (last : after (n + 1) ≡ text)
-    (new_text : new.text ≡ text) (new_since : new.since ≡ n + 1)
+    (changes : after (n + 1) ≢ held n) (new_text : new.text ≡ text) (new_since : new.since ≡ n + 1)
     (former : periods_of new t.text ≡ periods_of t t.text ++ record { first = t.since; stop = n + 1 } ∷ [])
     (others : (x : Option (List ℕ)) → x ≢ t.text → periods_of new x ≡ periods_of t x) where
   abbrev grown : List Period
@@ -272,6 +344,26 @@ module _ (held after : ℕ → Option (List ℕ)) (n : ℕ) (t new : Timeline) (
       absurd (ne (sym same ∙ kept m (omega (arith, less)) ∙ h.now m late (omega (arith, less)))))
       (less_or m t.since)
 
+  abbrev Begins : Option (List ℕ) → List Period → Type 0
+  Begins x periods = (i : ℕ) (p : Period) → slice_get periods i ≡ Some p → (m : ℕ) → m + 1 ≡ p.first → after m ≢ x
+
+  -- the periods before the change begin as before
+  former_begins : (x : Option (List ℕ)) → Begins x (periods_of t x)
+  former_begins x i p there m e same =
+      let filled = (h.rising x).filled i p there in
+      let end = h.before x i p there in
+      let since = h.since in
+      h.begins x i p there m e (sym (kept m (omega (arith, filled, end, since, e))) ∙ same)
+
+  grown_begins : Begins t.text grown
+  grown_begins i p there m e same = ⊎_elim
+      (λ (f : slice_get (periods_of t t.text) i ≡ Some p). former_begins t.text i p f m e same)
+      (λ (f : (i ≡ length (periods_of t t.text)) × (newest ≡ p)).
+      let first : t.since ≡ p.first = ap (λ (q : Period). q.first) f.1 in
+      let since = h.since in
+      h.began m (e ∙ sym first) (sym (kept m (omega (arith, e, first, since))) ∙ same))
+      (item_either (periods_of t t.text) newest i p there)
+
   -- a fact about the periods of each text holds if it holds for the old text, whose periods have grown, and for all
   -- other texts
   each : (P : Option (List ℕ) → List Period → Type 0) → P t.text grown
@@ -299,6 +391,10 @@ module _ (held after : ℕ → Option (List ℕ)) (n : ℕ) (t new : Timeline) (
     holds = each Fits grown_fits (λ x ne. other_fits x);
     all = subst (λ k. (x : Option (List ℕ)) → Covers x (periods_of new x) k) (sym new_since)
         (each (λ x periods. Covers x periods (n + 1)) grown_covers other_covers);
+    begins = each Begins grown_begins (λ x ne. former_begins x);
+    began = λ m e same.
+        let is : m ≡ n = omega (arith, e, new_since) in
+        changes (last ∙ sym new_text ∙ sym same ∙ ap after is ∙ kept n (omega arith));
   }
 
 -- if the text does not change, the same timeline is right for a further command
@@ -321,6 +417,14 @@ unchanged held after n t h kept last = record {
   all = λ x m less same.
       let since = h.since in
       h.all x m less (sym (kept m (omega (arith, less, since))) ∙ same);
+  begins = λ x i p there m e same.
+      let filled = (h.rising x).filled i p there in
+      let end = h.before x i p there in
+      let since = h.since in
+      h.begins x i p there m e (sym (kept m (omega (arith, filled, end, since, e))) ∙ same);
+  began = λ m e same.
+      let since = h.since in
+      h.began m e (sym (kept m (omega (arith, e, since))) ∙ same);
 }
   where
     either : (a c : ℕ) → a ≤ c + 1 → (a ≤ c) ⊎ (a ≡ c + 1)
@@ -339,6 +443,8 @@ fresh held n t none text since periods = record {
   before = λ x i p there. absurd (empty x i p there);
   holds = λ x i p there. absurd (empty x i p there);
   all = λ x m less same. absurd (omega (arith, less, since));
+  begins = λ x i p there m e same. absurd (empty x i p there);
+  began = λ m e same. absurd (omega (arith, e, since));
 }
   where
     empty : (x : Option (List ℕ)) (i : ℕ) (p : Period) → slice_get (periods_of t x) i ≡ Some p → ⊥
@@ -346,14 +452,14 @@ fresh held n t none text since periods = record {
 
 -- a changed timeline is right for `count` commands, which are one more than before
 pub changed_at : (held after : ℕ → Option (List ℕ)) (n count : ℕ) (t new : Timeline) → n + 1 ≡ count → IsTimeline held n t
-    → ((m : ℕ) → m ≤ n → after m ≡ held m) → (text : Option (List ℕ)) → after count ≡ text → new.text ≡ text
-    → new.since ≡ count
+    → ((m : ℕ) → m ≤ n → after m ≡ held m) → (text : Option (List ℕ)) → after count ≡ text
+    → after count ≢ held n → new.text ≡ text → new.since ≡ count
     → periods_of new t.text ≡ periods_of t t.text ++ record { first = t.since; stop = count } ∷ []
     → ((x : Option (List ℕ)) → x ≢ t.text → periods_of new x ≡ periods_of t x) → IsTimeline after count new
 changed_at held after n count t new e =
     subst (λ k. IsTimeline held n t → ((m : ℕ) → m ≤ n → after m ≡ held m) → (text : Option (List ℕ)) → after k ≡ text
-    → new.text ≡ text → new.since ≡ k
+    → after k ≢ held n → new.text ≡ text → new.since ≡ k
     → periods_of new t.text ≡ periods_of t t.text ++ record { first = t.since; stop = k } ∷ []
     → ((x : Option (List ℕ)) → x ≢ t.text → periods_of new x ≡ periods_of t x) → IsTimeline after k new) e
-    (λ h kept text last new_text new_since former others.
-    changed held after n t new h kept text last new_text new_since former others)
+    (λ h kept text last changes new_text new_since former others.
+    changed held after n t new h kept text last changes new_text new_since former others)

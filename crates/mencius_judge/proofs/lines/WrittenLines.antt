@@ -1,5 +1,5 @@
 -- A written line is read as its observation, and a written log is read as that log.
-use Rattle.std.proofs.Common.{◌≡◌, ◌≢◌, ℕ, ◌+◌, ◌<◌, ◌≤◌, ◌^◌, ◌&&◌, List, [], ◌∷◌, ◌++◌, length, Bool, true, false, Some, None, Option, Ok, refl, ap, subst, sym, arith, codes, nat_le, nat_lt, lit<}
+use Rattle.std.proofs.Common.{◌≡◌, ◌≢◌, ◌==◌, ℕ, ◌+◌, ◌<◌, ◌≤◌, ◌^◌, ◌&&◌, List, [], ◌∷◌, ◌++◌, length, Bool, true, false, cond, Some, None, Option, option_map, Ok, refl, ap, subst, sym, arith, codes, nat_le, nat_lt, lit<}
 use Rattle.std.specs.Prelude.{IsAscii, decimal}
 use Rattle.std.specs.List.{list_all}
 use Rattle.std.specs.Str.{is_utf8}
@@ -18,23 +18,23 @@ use Rattle.mencius_base.specs.declared.command.CommandId.{CommandId}
 use Rattle.mencius_base.specs.declared.command.Op.{Op}
 use Rattle.mencius_format.specs.Grammar.{id_of, is_id_within, newest_version, two_numbers}
 use Rattle.mencius_format.specs.Operations.{op_text}
-use Rattle.mencius_format.specs.Texts.{command_text, id_text}
+use Rattle.mencius_format.specs.Texts.{command_text, id_text, two_texts}
 use Rattle.mencius_format.specs.Words.{words}
 use Rattle.mencius_format.proofs.OperationWords.{both_hold, most_op_bytes, op_stands, op_word}
 use Rattle.mencius_format.proofs.PlainWords.{ArePlain, is_plain}
 use Rattle.mencius_format.proofs.TextWords.{commands_read_back}
 use Rattle.mencius_format.proofs.WrittenWords.{Lacks, cut_at, lacks_append, lacks_dot, lacks_space, name_again, named_lacks, number_again, uncut}
+use Rattle.mencius_judge.specs.declared.observation.Answer.{Answer}
+use Rattle.mencius_judge.specs.declared.observation.Answer.TheVariants.{Held, Done, Failed}
 use Rattle.mencius_judge.specs.declared.observation.Observation.{Observation}
-use Rattle.mencius_judge.specs.declared.observation.Observation.TheVariants.{Submit, Execute, Reply, Lookup, Tell}
-use Rattle.mencius_judge.specs.Lines.{answer_of, is_answer_within, is_passed_over, line_said, most_line_bytes, observation_of, is_observation_within}
+use Rattle.mencius_judge.specs.declared.observation.Observation.TheVariants.{Submit, Execute, Reply, Lookup, Tell, Settle, Restore}
+use Rattle.mencius_judge.specs.declared.quote.Quote.{Quote}
+use Rattle.mencius_judge.specs.Lines.{answer_of, is_answer_within, is_passed_over, is_reply_within, line_said, most_line_bytes, observation_of, is_observation_within, reply_answer_of, without_return}
 use Rattle.mencius_judge.specs.LogReader.{AddsLine, IsInLine}
-use Rattle.mencius_judge.specs.VerdictLines.{held_text}
-use Rattle.mencius_judge.specs.Written.{IsAnswer, IsIdentity, IsSayable, LogsReadBack, ObservationsReadBack, observation_line, observation_text}
+use Rattle.mencius_judge.specs.ObservationLines.{answer_text, held_text, observation_line, observation_text}
+use Rattle.mencius_judge.specs.Written.{IsAnswer, IsIdentity, IsReplySayable, IsSayable, LogsReadBack, ObservationsReadBack}
 
 -- ---- words
-
-u8 : (n : ℕ) → n < 2 ^ 8 → n < 2 ^ 64
-u8 n h = omega (arith, h)
 
 u32 : (n : ℕ) → n < 2 ^ 32 → n < 2 ^ 64
 u32 n h = omega (arith, h)
@@ -68,22 +68,42 @@ answer_lacks None h = (
 )
 answer_lacks (Some text) h = (λ e. absurd (omega arith), named_lacks text h.0)
 
+reply_again : (x : Answer) → IsReplySayable x → reply_answer_of (answer_text x) ≡ Some x
+reply_again (Held None) h = ap (option_map Held) (answer_again None h)
+reply_again (Held (Some text)) h = ap (option_map Held) (answer_again (Some text) h)
+reply_again Done h = refl
+reply_again Failed h = refl
+
+reply_lacks : (x : Answer) → IsReplySayable x → Lacks 32 (answer_text x)
+reply_lacks (Held text) h = answer_lacks text h
+reply_lacks Done h = (no_space 111 (lit< tt), (no_space 107 (lit< tt), tt))
+reply_lacks Failed h = (
+  no_space 102 (lit< tt),
+  (
+    no_space 97 (lit< tt),
+    (
+      no_space 105 (lit< tt),
+      (no_space 108 (lit< tt), (no_space 101 (lit< tt), (no_space 100 (lit< tt), tt))),
+    ),
+  ),
+)
+
 said_again : (o : Observation) → IsSayable o → observation_of (words (observation_text o)) ≡ Some o
-unfolding observation_of
+unfolding observation_of two_numbers
 said_again (Submit command) h = rw ((commands_read_back newest_version command h (op_stands command.op)).0) refl
 said_again (Execute server id) h =
     rw (
-      cut_at 32 (decimal server) (id_text id) (lacks_space server (u8 server h.0)) refl,
+      cut_at 32 (decimal server) (id_text id) (lacks_space server (u32 server h.0)) refl,
       uncut 32 (id_text id) (id_lacks id h.1),
-      number_again server (u8 server h.0),
+      number_again server (u32 server h.0),
       id_again id h.1,
     ) refl
-said_again (Reply id text) h =
+said_again (Reply id answer) h =
     rw (
-      cut_at 32 (id_text id) (held_text text) (id_lacks id h.0) refl,
-      uncut 32 (held_text text) (answer_lacks text h.1),
+      cut_at 32 (id_text id) (answer_text answer) (id_lacks id h.0) refl,
+      uncut 32 (answer_text answer) (reply_lacks answer h.1),
       id_again id h.0,
-      answer_again text h.1,
+      reply_again answer h.1,
     ) refl
 said_again (Lookup reader key text) h =
     rw (
@@ -97,9 +117,20 @@ said_again (Lookup reader key text) h =
 said_again (Tell reader server) h =
     rw (
       cut_at 32 (decimal reader) (decimal server) (lacks_space reader (u32 reader h.0)) refl,
-      uncut 32 (decimal server) (lacks_space server (u8 server h.1)),
+      uncut 32 (decimal server) (lacks_space server (u32 server h.1)),
       number_again reader (u32 reader h.0),
-      number_again server (u8 server h.1),
+      number_again server (u32 server h.1),
+    ) refl
+said_again (Settle server) h =
+    rw (uncut 32 (decimal server) (lacks_space server (u32 server h)), number_again server (u32 server h)) refl
+said_again (Restore server source count) h =
+    rw (
+      cut_at 32 (decimal server) (two_texts source count) (lacks_space server (u32 server h.0)) refl,
+      cut_at 32 (decimal source) (decimal count) (lacks_space source (u32 source h.1)) refl,
+      uncut 32 (decimal count) (lacks_space count (u32 count h.2)),
+      number_again server (u32 server h.0),
+      number_again source (u32 source h.1),
+      number_again count (u32 count h.2),
     ) refl
 
 -- ---- limits
@@ -114,14 +145,23 @@ answer_fits : (text : Option (List ℕ)) → IsAnswer text → is_answer_within 
 answer_fits None h = refl
 answer_fits (Some text) h = h.1
 
+reply_fits : (x : Answer) → IsReplySayable x → is_reply_within x ≡ true
+reply_fits (Held text) h = answer_fits text h
+reply_fits Done h = refl
+reply_fits Failed h = refl
+
 within_again : (o : Observation) → IsSayable o → is_observation_within o ≡ true
 within_again (Submit command) h = (commands_read_back newest_version command h (op_stands command.op)).1
-within_again (Execute server id) h = both_hold _ _ (below_test server (2 ^ 8) h.0) (id_fits id h.1)
-within_again (Reply id text) h = both_hold _ _ (id_fits id h.0) (answer_fits text h.1)
+within_again (Execute server id) h = both_hold _ _ (below_test server (2 ^ 32) h.0) (id_fits id h.1)
+within_again (Reply id answer) h = both_hold _ _ (id_fits id h.0) (reply_fits answer h.1)
 within_again (Lookup reader key text) h =
     both_hold _ _ (below_test reader (2 ^ 32) h.0) (both_hold _ _ h.2 (answer_fits text h.3))
 within_again (Tell reader server) h =
-    both_hold _ _ (below_test reader (2 ^ 32) h.0) (below_test server (2 ^ 8) h.1)
+    both_hold _ _ (below_test reader (2 ^ 32) h.0) (below_test server (2 ^ 32) h.1)
+within_again (Settle server) h = below_test server (2 ^ 32) h
+within_again (Restore server source count) h =
+    both_hold _ _ (below_test server (2 ^ 32) h.0)
+    (both_hold _ _ (below_test source (2 ^ 32) h.1) (below_test count (2 ^ 32) h.2))
 
 -- ---- the bytes of a line
 
@@ -143,6 +183,17 @@ shown_in_line [] h = tt
 shown_in_line (x ∷ xs) h =
     let parts = and_parts (is_shown x) (list_all is_shown xs) h in
     (λ e. grind (arith, nat_tests, parts.0, e), shown_in_line xs parts.1)
+
+-- such a text has no carriage return at its end
+shown_kept : (s : List ℕ) → AreShown s → without_return s ≡ s
+shown_kept [] h = refl
+shown_kept (x ∷ []) h =
+    let parts = and_parts (is_shown x) true h in
+    let other : (x == 13) ≡ false = grind (arith, nat_tests, parts.0) in
+    ap (λ d. cond d [] (x ∷ [])) other
+shown_kept (x ∷ y ∷ s) h =
+    let parts = and_parts (is_shown x) (list_all is_shown (y ∷ s)) h in
+    ap (λ r. x ∷ r) (shown_kept (y ∷ s) parts.1)
 
 -- each byte of the text is ASCII and at least 32, and there are at most `most` bytes
 record IsShort (most : ℕ) (s : List ℕ) : Type 0 where
@@ -178,9 +229,6 @@ number_short len n some fits small = record {
   shown = digits_shown (decimal n) (digits_decimal (numerals_by_value (AllDigits 10) tells_digits) n small);
   short = length-decimal-le len n some fits small;
 }
-
-u8_short : (n : ℕ) → n < 2 ^ 8 → IsShort 3 (decimal n)
-u8_short n h = number_short 3 n (omega arith) (omega arith) (u8 n h)
 
 u32_short : (n : ℕ) → n < 2 ^ 32 → IsShort 10 (decimal n)
 u32_short n h = number_short 10 n (omega arith) (omega arith) (u32 n h)
@@ -224,6 +272,11 @@ answer_short (Some text) h = record { shown = name_shown text h.0; short = omega
     answer_length : (s : List ℕ) → is_text_length s ≡ true → length s ≤ most_text_bytes
     answer_length s h = grind (arith, nat_tests)
 
+reply_short : (x : Answer) → IsReplySayable x → IsShort 257 (answer_text x)
+reply_short (Held text) h = answer_short text h
+reply_short Done h = record { shown = refl; short = omega arith }
+reply_short Failed h = record { shown = refl; short = omega arith }
+
 -- a text after the word of its kind fits into a line
 behind : (word text : List ℕ) (m n : ℕ) → IsShort m word → IsShort n text → m + n ≤ most_line_bytes
     → IsShort most_line_bytes (word ++ text)
@@ -235,12 +288,12 @@ line_short (Submit command) h = behind (codes "submit ") (command_text command) 
     (record { shown = refl; short = omega arith })
     (around 21 most_op_bytes 32 (id_text command.id) (op_text command.op) refl (id_short command.id (h.0, h.1))
     (op_short command.op h.2)) (omega arith)
-line_short (Execute server id) h = behind (codes "execute ") (decimal server ++ 32 ∷ id_text id) 8 (3 + (1 + 21))
+line_short (Execute server id) h = behind (codes "execute ") (decimal server ++ 32 ∷ id_text id) 8 (10 + (1 + 21))
     (record { shown = refl; short = omega arith })
-    (around 3 21 32 (decimal server) (id_text id) refl (u8_short server h.0) (id_short id h.1)) (omega arith)
-line_short (Reply id text) h = behind (codes "reply ") (id_text id ++ 32 ∷ held_text text) 6 (21 + (1 + 257))
+    (around 10 21 32 (decimal server) (id_text id) refl (u32_short server h.0) (id_short id h.1)) (omega arith)
+line_short (Reply id answer) h = behind (codes "reply ") (id_text id ++ 32 ∷ answer_text answer) 6 (21 + (1 + 257))
     (record { shown = refl; short = omega arith })
-    (around 21 257 32 (id_text id) (held_text text) refl (id_short id h.0) (answer_short text h.1)) (omega arith)
+    (around 21 257 32 (id_text id) (answer_text answer) refl (id_short id h.0) (reply_short answer h.1)) (omega arith)
 line_short (Lookup reader key text) h =
     behind (codes "lookup ") (decimal reader ++ 32 ∷ (key ++ 32 ∷ held_text text)) 7 (10 + (1 + (64 + (1 + 257))))
     (record { shown = refl; short = omega arith })
@@ -250,18 +303,28 @@ line_short (Lookup reader key text) h =
   where
     key_length : (s : List ℕ) → is_key_length s ≡ true → length s ≤ 64
     key_length s h = grind (arith, nat_tests)
-line_short (Tell reader server) h = behind (codes "told ") (decimal reader ++ 32 ∷ decimal server) 5 (10 + (1 + 3))
+line_short (Tell reader server) h = behind (codes "told ") (two_texts reader server) 5 (10 + (1 + 10))
     (record { shown = refl; short = omega arith })
-    (around 10 3 32 (decimal reader) (decimal server) refl (u32_short reader h.0) (u8_short server h.1)) (omega arith)
+    (around 10 10 32 (decimal reader) (decimal server) refl (u32_short reader h.0) (u32_short server h.1)) (omega arith)
+line_short (Settle server) h =
+    behind (codes "settled ") (decimal server) 8 10 (record { shown = refl; short = omega arith }) (u32_short server h)
+    (omega arith)
+line_short (Restore server source count) h =
+    behind (codes "restore ") (decimal server ++ 32 ∷ two_texts source count) 8 (10 + (1 + (10 + (1 + 10))))
+    (record { shown = refl; short = omega arith })
+    (around 10 (10 + (1 + 10)) 32 (decimal server) (two_texts source count) refl (u32_short server h.0)
+    (around 10 10 32 (decimal source) (decimal count) refl (u32_short source h.1) (u32_short count h.2))) (omega arith)
 
 -- ---- the laws
 
 no_remark : (o : Observation) → is_passed_over (observation_text o) ≡ false
 no_remark (Submit command) = refl
 no_remark (Execute server id) = refl
-no_remark (Reply id text) = refl
+no_remark (Reply id answer) = refl
 no_remark (Lookup reader key text) = refl
 no_remark (Tell reader server) = refl
+no_remark (Settle server) = refl
+no_remark (Restore server source count) = refl
 
 line_again : (line : List ℕ) (o : Observation) → IsShort most_line_bytes line → is_passed_over line ≡ false
     → observation_of (words line) ≡ Some o → is_observation_within o ≡ true → line_said line ≡ Ok (Some o)
@@ -269,7 +332,7 @@ line_again line o h seen said fits =
     let fit : nat_lt most_line_bytes (length line) ≡ false = grind (arith, nat_tests, h.short) in
     let utf8 : is_utf8 line ≡ true =
     is_utf8-from_IsUtf8 line (IsUtf8-from_ascii line (shown_ascii line h.shown)) in
-    rw (fit, seen, utf8, said, fits) refl
+    rw (fit, shown_kept line h.shown, seen, utf8, said, fits) refl
 
 pub observations_read_back : ObservationsReadBack
 observations_read_back o h =
@@ -279,11 +342,19 @@ observations_read_back o h =
     )
 
 pub logs_read_back : LogsReadBack
-logs_read_back [] h = ([], refl, refl)
+logs_read_back [] h = ([], [], refl, refl, refl)
 logs_read_back (o ∷ w) h =
     let one = observations_read_back o h.0 in
-    let rest = logs_read_back w h.1 in (
+    let rest = logs_read_back w h.1 in
+    let line : Quote = record { number = length rest.0 + 1; observation = o } in (
       observation_text o ∷ rest.0,
-      ap (λ xs. xs ++ observation_line o) rest.1,
-      (one.0, w, rest.2, subst (λ said. AddsLine said w (o ∷ w)) (sym one.1) refl),
+      line ∷ rest.1,
+      ap (λ xs. xs ++ observation_line o) rest.2,
+      (
+        one.0,
+        rest.1,
+        rest.3,
+        subst (λ said. AddsLine said (length rest.0 + 1) rest.1 (line ∷ rest.1)) (sym one.1) refl,
+      ),
+      ap (λ u. o ∷ u) rest.4,
     )

@@ -1,16 +1,21 @@
 -- The facts about the longest history stay true after each observation that breaks no promise.
-use Rattle.std.proofs.Common.{◌≡◌, ◌⊎◌, inl, inr, ℕ, zero, suc, Bool, true, false, List, [], ◌∷◌, ◌++◌, Option, Some, IsTrue, get_or, is_some, length, slice_get, drop, rules, refl, sym, subst, ap, ◌∙◌, append_assoc}
+use Rattle.std.proofs.Common.{◌≡◌, ◌⊎◌, inl, inr, ℕ, zero, suc, Bool, true, false, List, [], ◌∷◌, ◌++◌, Some, IsTrue, is_some, length, slice_get, drop, rules, refl, sym, subst, ap, ◌∙◌, append_assoc}
 use Rattle.std.specs.List.{Contains}
 use Rattle.std.proofs.lemmas.List.{take-append-drop}
 use Rattle.mencius_base.specs.declared.command.Command.{Command}
 use Rattle.mencius_base.specs.declared.command.CommandId.{CommandId}
 use Rattle.mencius_model.specs.KeyMap.{out}
+use Rattle.mencius_judge.specs.declared.histories.Row.{Row}
+use Rattle.mencius_judge.specs.declared.observation.Answer.{Answer}
 use Rattle.mencius_judge.specs.declared.observation.Observation.TheVariants.{Submit, Execute, Reply}
-use Rattle.mencius_judge.specs.Log.{Log, command_of, commands_of, has_id, history, with_reply_before}
+use Rattle.mencius_judge.specs.Answers.{IsRight}
+use Rattle.mencius_judge.specs.Log.{Log, acknowledged_before, command_of, commands_of, has_id, history}
 use Rattle.mencius_judge.specs.Promises.{AreRightReplies, StandBehindReplies}
+use Rattle.mencius_judge.specs.Rows.{Places, count_of}
 use Rattle.mencius_judge.specs.Tables.{AreHistories, IsOrder}
-use Rattle.mencius_judge.proofs.promises.Identities.{has_place}
-use Rattle.mencius_judge.proofs.observations.HistorySteps.{once_more}
+use Rattle.mencius_judge.proofs.promises.Identities.{has_place, place_has}
+use Rattle.mencius_judge.proofs.observations.Quiet.{quiet_reply}
+use Rattle.mencius_judge.proofs.observations.RowSteps.{once_more}
 use Rattle.mencius_judge.proofs.promises.Logs.{AreKnown, contains_cons, kept_before, kept_command, kept_commands}
 
 -- ---- lists
@@ -73,7 +78,7 @@ pub kept_at : (w : Log) (x : Command) (order front back : List CommandId) (id : 
 kept_at w x order front back id c h e is =
     sym (kept_command w x id (item_known w order front back id h e)) ∙ is
 
--- ---- the four kinds of steps
+-- ---- the steps that add something
 
 pub order_submit : (w : Log) (x : Command) (order : List CommandId) → IsOrder w order → IsOrder (Submit x ∷ w) order
 order_submit w x order h = record {
@@ -81,53 +86,41 @@ order_submit w x order h = record {
   once = h.once;
   behind = λ front back id y e inside. h.behind front back id y e
       (ap (λ ids. has_id ids y) (sym (kept_before w x id (item_known w order front back id h.known e))) ∙ inside);
-  right = λ front back id c text e is there.
-      h.right front back id c text e (kept_at w x order front back id c h.known e is) (earlier_reply id text there)
-      ∙ sym (kept_out w x order front back id c h.known e);
+  right = λ front back id c answer e is there.
+      subst (λ held. IsRight c.op held answer) (sym (kept_out w x order front back id c h.known e))
+      (h.right front back id c answer e (kept_at w x order front back id c h.known e is) (earlier_reply id answer there));
 }
   where
-    earlier_reply : (id : CommandId) (text : Option (List ℕ)) → Contains (Submit x ∷ w) (Reply id text)
-        → Contains w (Reply id text)
-    earlier_reply id text there =
-        elim (contains_cons (Submit x) w (Reply id text) there) [ inl e ↦ absurd (cc) | inr later ↦ later ]
-
-pub executed_reply : (w : Log) (p : ℕ) (x id : CommandId) (text : Option (List ℕ))
-    → Contains (Execute p x ∷ w) (Reply id text) → Contains w (Reply id text)
-executed_reply w p x id text there =
-    elim (contains_cons (Execute p x) w (Reply id text) there) [ inl e ↦ absurd (cc) | inr later ↦ later ]
-
-pub order_follow : (w : Log) (p : ℕ) (x : CommandId) (order : List CommandId) → IsOrder w order
-    → IsOrder (Execute p x ∷ w) order
-order_follow w p x order h = record {
-  known = h.known;
-  once = h.once;
-  behind = h.behind;
-  right = λ front back id c text e is there. h.right front back id c text e is (executed_reply w p x id text there);
-}
+    earlier_reply : (id : CommandId) (answer : Answer) → Contains (Submit x ∷ w) (Reply id answer)
+        → Contains w (Reply id answer)
+    earlier_reply id answer there =
+        elim (contains_cons (Submit x) w (Reply id answer) there) [ inl e ↦ absurd (cc) | inr later ↦ later ]
 
 pub order_lead : (w : Log) (p : ℕ) (x : CommandId) (d : Command) (order : List CommandId) → IsOrder w order
     → has_id order x ≡ false → command_of w x ≡ Some d
-    → ((y : CommandId) → has_id (with_reply_before w x) y ≡ true → has_id order y ≡ true)
-    → ((text : Option (List ℕ)) → Contains w (Reply x text) → text ≡ out (commands_of w order) d)
+    → ((y : CommandId) → has_id (acknowledged_before w x) y ≡ true → has_id order y ≡ true)
+    → ((answer : Answer) → Contains w (Reply x answer) → IsRight d.op (out (commands_of w order) d) answer)
     → IsOrder (Execute p x ∷ w) (order ++ x ∷ [])
 order_lead w p x d order h new command settled right = record {
   known = λ n id e. by_place n id (place order n id e);
-  once = once_more order x h.once new;
+  once = once_more order x h.once (λ n e. let there : has_id order x ≡ true = place_has order x n e in (cc));
   behind = λ front back id y e inside.
       elim (split_end order x front back id e) [
         | inl at ↦
             subst (λ ids. has_id ids y ≡ true) (sym at.0)
-            (settled y (subst (λ (a : CommandId). has_id (with_reply_before w a) y ≡ true) at.1 inside))
+            (settled y (subst (λ (a : CommandId). has_id (acknowledged_before w a) y ≡ true) at.1 inside))
         | inr at ↦ h.behind front at.0 id y at.1 inside
       ];
-  right = λ front back id c text e is there.
+  right = λ front back id c answer e is there.
+      let before : Contains w (Reply id answer) = quiet_reply w (Execute p x) tt id answer there in
       elim (split_end order x front back id e) [
         | inl at ↦
             let same : d ≡ c =
             (let both : Some d ≡ Some c = sym command ∙ ap (command_of w) (sym at.1) ∙ is in cc) in
-            right text (subst (λ (a : CommandId). Contains w (Reply a text)) at.1 (executed_reply w p x id text there))
-            ∙ ap (λ cs. out cs d) (ap (commands_of w) (sym at.0)) ∙ ap (out (commands_of w front)) same
-        | inr at ↦ h.right front at.0 id c text at.1 is (executed_reply w p x id text there)
+            subst (λ (y : Command). IsRight y.op (out (commands_of w front) y) answer) same
+            (subst (λ ids. IsRight d.op (out (commands_of w ids) d) answer) (sym at.0)
+            (right answer (subst (λ (a : CommandId). Contains w (Reply a answer)) at.1 before)))
+        | inr at ↦ h.right front at.0 id c answer at.1 is before
       ];
 }
   where
@@ -142,40 +135,42 @@ order_lead w p x d order h new command settled right = record {
     by_place n id (inl e) = h.known n id e
     by_place n id (inr e) = ap is_some (ap (command_of w) (sym e) ∙ command)
 
-pub order_reply : (w : Log) (x : CommandId) (text : Option (List ℕ)) (order : List CommandId) → IsOrder w order
+pub order_reply : (w : Log) (x : CommandId) (answer : Answer) (order : List CommandId) → IsOrder w order
     → ((front back : List CommandId) (c : Command) → order ≡ front ++ x ∷ back → command_of w x ≡ Some c
-    → text ≡ out (commands_of w front) c)
-    → IsOrder (Reply x text ∷ w) order
-order_reply w x text order h right = record {
+    → IsRight c.op (out (commands_of w front) c) answer)
+    → IsOrder (Reply x answer ∷ w) order
+order_reply w x answer order h right = record {
   known = h.known;
   once = h.once;
   behind = h.behind;
   right = λ front back id c y e is there.
-      elim (contains_cons (Reply x text) w (Reply id y) there) [
+      elim (contains_cons (Reply x answer) w (Reply id y) there) [
         | inl same ↦
             let ids : x ≡ id = cc in
-            let texts : text ≡ y = cc in
-            sym texts ∙ right front back c (e ∙ ap (λ a. front ++ a ∷ back) (sym ids)) (ap (command_of w) ids ∙ is)
+            let answers : answer ≡ y = cc in
+            subst (IsRight c.op (out (commands_of w front) c)) answers
+            (right front back c (e ∙ ap (λ a. front ++ a ∷ back) (sym ids)) (ap (command_of w) ids ∙ is))
         | inr later ↦ h.right front back id c y e is later
       ];
 }
 
 -- ---- promises about all histories
 
-module _ (w : Log) (order : List CommandId) (counts : List ℕ) (h : AreHistories w order counts) (facts : IsOrder w order) where
+module _ (w : Log) (order : List CommandId) (places : Places) (rows : List Row)
+    (h : AreHistories w order places rows) (facts : IsOrder w order) where
   -- if a command is in a history, it is at the same place of the longest one
   longer : (p : ℕ) (front back : List CommandId) (id : CommandId) → history w p ≡ front ++ id ∷ back
-      → order ≡ front ++ id ∷ (back ++ drop (get_or counts p 0) order)
+      → order ≡ front ++ id ∷ (back ++ drop (count_of places rows p) order)
   longer p front back id e =
-      sym (take-append-drop (get_or counts p 0) order)
-      ∙ ap (λ xs. xs ++ drop (get_or counts p 0) order) (sym (h.each p) ∙ e)
-      ∙ append_assoc front (id ∷ back) (drop (get_or counts p 0) order)
+      sym (take-append-drop (count_of places rows p) order)
+      ∙ ap (λ xs. xs ++ drop (count_of places rows p) order) (sym (h.each p) ∙ e)
+      ∙ append_assoc front (id ∷ back) (drop (count_of places rows p) order)
 
   pub stand_behind : StandBehindReplies w
   stand_behind p front back id x e inside =
       as_true (has_id front x)
-      (facts.behind front (back ++ drop (get_or counts p 0) order) id x (longer p front back id e)
-      (is_true (has_id (with_reply_before w id) x) inside))
+      (facts.behind front (back ++ drop (count_of places rows p) order) id x (longer p front back id e)
+      (is_true (has_id (acknowledged_before w id) x) inside))
     where
       is_true : (d : Bool) → IsTrue d → d ≡ true
       is_true d t = search rules
@@ -185,4 +180,4 @@ module _ (w : Log) (order : List CommandId) (counts : List ℕ) (h : AreHistorie
 
   pub right_replies : AreRightReplies w
   right_replies p front back id c x e is there =
-      facts.right front (back ++ drop (get_or counts p 0) order) id c x (longer p front back id e) is there
+      facts.right front (back ++ drop (count_of places rows p) order) id c x (longer p front back id e) is there

@@ -1,90 +1,122 @@
--- The data of a judge, apart from the floors, stays right after a lookup or a Tell observation.
-use Rattle.std.proofs.Common.{inl, inr, ℕ, List, ◌∷◌, Option}
+-- Which of a judge's data stays right after an observation that says nothing about it.
+use Rattle.std.proofs.Common.{inl, inr, ℕ, List, ◌∷◌}
 use Rattle.std.specs.List.{Contains}
 use Rattle.std.specs.BTreeMap.{BTreeMap}
 use Rattle.mencius_base.specs.declared.command.Command.{Command}
 use Rattle.mencius_base.specs.declared.command.CommandId.{CommandId}
+use Rattle.mencius_judge.specs.Rows.{Places}
+use Rattle.mencius_judge.specs.declared.histories.Row.{Row}
 use Rattle.mencius_judge.specs.declared.judge.Submission.{Submission}
-use Rattle.mencius_judge.specs.declared.observation.Observation.TheVariants.{Submit, Reply, Lookup, Tell}
+use Rattle.mencius_judge.specs.declared.observation.Answer.{Answer}
+use Rattle.mencius_judge.specs.declared.observation.Observation.{Observation}
+use Rattle.mencius_judge.specs.declared.observation.Observation.TheVariants.{Submit, Execute, Reply, Lookup, Tell, Settle, Restore}
 use Rattle.mencius_judge.specs.Log.{Log}
 use Rattle.mencius_judge.specs.Promises.{AreOneCommand, AreOneReply}
-use Rattle.mencius_judge.specs.Tables.{AreExecutions, AreHistories, AreReplies, AreSubmissions, Executions, IsOrder, Replies}
+use Rattle.mencius_judge.specs.Tables.{AreExecutions, AreFloors, AreHistories, AreReplies, AreSubmissions, Executions, IsOrder, Replies}
 use Rattle.mencius_judge.proofs.promises.Logs.{contains_cons}
 
--- ---- lookups
+-- ---- kinds of observations
 
-module _ (w : Log) (reader : ℕ) (key : List ℕ) (text : Option (List ℕ)) where
-  lookup_command : (c : Command) → Contains (Lookup reader key text ∷ w) (Submit c) → Contains w (Submit c)
-  lookup_command c there =
-      elim (contains_cons (Lookup reader key text) w (Submit c) there) [ inl e ↦ absurd (cc) | inr later ↦ later ]
+-- the observation is no submission and no reply
+abbrev pub IsQuiet : Observation → Type 0
+IsQuiet (Submit command) = ⊥
+IsQuiet (Execute server id) = Unit {0}
+IsQuiet (Reply id answer) = ⊥
+IsQuiet (Lookup reader key text) = Unit {0}
+IsQuiet (Tell reader server) = Unit {0}
+IsQuiet (Settle server) = Unit {0}
+IsQuiet (Restore server source count) = Unit {0}
 
-  lookup_reply : (id : CommandId) (x : Option (List ℕ)) → Contains (Lookup reader key text ∷ w) (Reply id x) → Contains w (Reply id x)
-  lookup_reply id x there =
-      elim (contains_cons (Lookup reader key text) w (Reply id x) there) [ inl e ↦ absurd (cc) | inr later ↦ later ]
+-- the observation gives no server a command
+abbrev pub GivesNothing : Observation → Type 0
+GivesNothing (Submit command) = Unit {0}
+GivesNothing (Execute server id) = ⊥
+GivesNothing (Reply id answer) = Unit {0}
+GivesNothing (Lookup reader key text) = Unit {0}
+GivesNothing (Tell reader server) = Unit {0}
+GivesNothing (Settle server) = Unit {0}
+GivesNothing (Restore server source count) = ⊥
 
-  pub one_lookup : AreOneCommand w → AreOneCommand (Lookup reader key text ∷ w)
-  one_lookup h c d first second = h c d (lookup_command c first) (lookup_command d second)
+-- the observation says nothing of a reader
+abbrev pub ReadsNothing : Observation → Type 0
+ReadsNothing (Submit command) = Unit {0}
+ReadsNothing (Execute server id) = Unit {0}
+ReadsNothing (Reply id answer) = Unit {0}
+ReadsNothing (Lookup reader key text) = ⊥
+ReadsNothing (Tell reader server) = ⊥
+ReadsNothing (Settle server) = Unit {0}
+ReadsNothing (Restore server source count) = Unit {0}
 
-  pub replies_lookup : AreOneReply w → AreOneReply (Lookup reader key text ∷ w)
-  replies_lookup h id x y first second = h id x y (lookup_reply id x first) (lookup_reply id y second)
+-- ---- submissions and replies
 
-  pub submissions_lookup : (rows : BTreeMap ℕ Submission) → AreSubmissions w rows → AreSubmissions (Lookup reader key text ∷ w) rows
-  submissions_lookup rows h = record { found = h.found; before = h.before }
+-- each submission and each reply was there before the quiet observation
+pub quiet_command : (w : Log) (o : Observation) → IsQuiet o → (c : Command) → Contains (o ∷ w) (Submit c)
+    → Contains w (Submit c)
+quiet_command w (Submit x) quiet c there = absurd quiet
+quiet_command w (Reply x answer) quiet c there = absurd quiet
+quiet_command w o quiet c there =
+    elim (contains_cons o w (Submit c) there) [ inl e ↦ absurd (cc) | inr later ↦ later ]
 
-  pub histories_lookup : (order : List CommandId) (counts : List ℕ) → AreHistories w order counts
-      → AreHistories (Lookup reader key text ∷ w) order counts
-  histories_lookup order counts h = record { each = h.each; within = h.within; some = h.some }
+pub quiet_reply : (w : Log) (o : Observation) → IsQuiet o → (id : CommandId) (x : Answer) → Contains (o ∷ w) (Reply id x)
+    → Contains w (Reply id x)
+quiet_reply w (Submit c) quiet id x there = absurd quiet
+quiet_reply w (Reply y answer) quiet id x there = absurd quiet
+quiet_reply w o quiet id x there =
+    elim (contains_cons o w (Reply id x) there) [ inl e ↦ absurd (cc) | inr later ↦ later ]
 
-  pub order_lookup : (order : List CommandId) → IsOrder w order → IsOrder (Lookup reader key text ∷ w) order
-  order_lookup order h = record {
-    known = h.known;
-    once = h.once;
-    behind = h.behind;
-    right = λ front back id c x e is there. h.right front back id c x e is (lookup_reply id x there);
-  }
+pub one_quiet : (w : Log) (o : Observation) → IsQuiet o → AreOneCommand w → AreOneCommand (o ∷ w)
+one_quiet w o quiet h c d first second = h c d (quiet_command w o quiet c first) (quiet_command w o quiet d second)
 
-  pub table_lookup : (replies : Replies) (ids : List CommandId) → AreReplies w replies ids → AreReplies (Lookup reader key text ∷ w) replies ids
-  table_lookup replies ids h = record { first = h.first; order = h.order; small = h.small }
+pub replies_quiet : (w : Log) (o : Observation) → IsQuiet o → AreOneReply w → AreOneReply (o ∷ w)
+replies_quiet w o quiet h id x y first second = h id x y (quiet_reply w o quiet id x first) (quiet_reply w o quiet id y second)
 
-  pub executions_lookup : (order : List CommandId) (executions : Executions) → AreExecutions w order executions
-      → AreExecutions (Lookup reader key text ∷ w) order executions
-  executions_lookup order executions h = record { all = h.all; right = h.right }
+pub submissions_quiet : (w : Log) (o : Observation) → IsQuiet o → (rows : BTreeMap ℕ Submission) → AreSubmissions w rows
+    → AreSubmissions (o ∷ w) rows
+submissions_quiet w (Submit c) quiet rows h = absurd quiet
+submissions_quiet w (Reply x answer) quiet rows h = absurd quiet
+submissions_quiet w o quiet rows h = record { found = h.found; before = h.before }
 
--- ---- Tell observations
+pub order_quiet : (w : Log) (o : Observation) → IsQuiet o → (order : List CommandId) → IsOrder w order
+    → IsOrder (o ∷ w) order
+order_quiet w (Submit c) quiet order h = absurd quiet
+order_quiet w (Reply x answer) quiet order h = absurd quiet
+order_quiet w o quiet order h = record {
+  known = h.known;
+  once = h.once;
+  behind = h.behind;
+  right = λ front back id c x e is there. h.right front back id c x e is (quiet_reply w o quiet id x there);
+}
 
-module _ (w : Log) (reader server : ℕ) where
-  tell_command : (c : Command) → Contains (Tell reader server ∷ w) (Submit c) → Contains w (Submit c)
-  tell_command c there =
-      elim (contains_cons (Tell reader server) w (Submit c) there) [ inl e ↦ absurd (cc) | inr later ↦ later ]
+pub table_quiet : (w : Log) (o : Observation) → IsQuiet o → (replies : Replies) (ids : List CommandId)
+    → AreReplies w replies ids → AreReplies (o ∷ w) replies ids
+table_quiet w (Submit c) quiet replies ids h = absurd quiet
+table_quiet w (Reply x answer) quiet replies ids h = absurd quiet
+table_quiet w o quiet replies ids h = record { first = h.first; order = h.order; small = h.small }
 
-  tell_reply : (id : CommandId) (x : Option (List ℕ)) → Contains (Tell reader server ∷ w) (Reply id x) → Contains w (Reply id x)
-  tell_reply id x there =
-      elim (contains_cons (Tell reader server) w (Reply id x) there) [ inl e ↦ absurd (cc) | inr later ↦ later ]
+pub executions_quiet : (w : Log) (o : Observation) → IsQuiet o → (order : List CommandId) (executions : Executions)
+    → AreExecutions w order executions → AreExecutions (o ∷ w) order executions
+executions_quiet w (Submit c) quiet order executions h = absurd quiet
+executions_quiet w (Reply x answer) quiet order executions h = absurd quiet
+executions_quiet w o quiet order executions h = record { all = h.all; right = h.right }
 
-  pub one_tell : AreOneCommand w → AreOneCommand (Tell reader server ∷ w)
-  one_tell h c d first second = h c d (tell_command c first) (tell_command d second)
+-- ---- histories and floors
 
-  pub replies_tell : AreOneReply w → AreOneReply (Tell reader server ∷ w)
-  replies_tell h id x y first second = h id x y (tell_reply id x first) (tell_reply id y second)
+pub histories_same : (w : Log) (o : Observation) → GivesNothing o
+    → (order : List CommandId) (places : Places) (rows : List Row) → AreHistories w order places rows
+    → AreHistories (o ∷ w) order places rows
+histories_same w (Execute p x) nothing order places rows h = absurd nothing
+histories_same w (Restore p q n) nothing order places rows h = absurd nothing
+histories_same w o nothing order places rows h = record {
+  each = h.each;
+  within = h.within;
+  some = h.some;
+  lengths = h.lengths;
+  there = h.there;
+  known = h.known;
+}
 
-  pub submissions_tell : (rows : BTreeMap ℕ Submission) → AreSubmissions w rows → AreSubmissions (Tell reader server ∷ w) rows
-  submissions_tell rows h = record { found = h.found; before = h.before }
-
-  pub histories_tell : (order : List CommandId) (counts : List ℕ) → AreHistories w order counts
-      → AreHistories (Tell reader server ∷ w) order counts
-  histories_tell order counts h = record { each = h.each; within = h.within; some = h.some }
-
-  pub order_tell : (order : List CommandId) → IsOrder w order → IsOrder (Tell reader server ∷ w) order
-  order_tell order h = record {
-    known = h.known;
-    once = h.once;
-    behind = h.behind;
-    right = λ front back id c x e is there. h.right front back id c x e is (tell_reply id x there);
-  }
-
-  pub table_tell : (replies : Replies) (ids : List CommandId) → AreReplies w replies ids → AreReplies (Tell reader server ∷ w) replies ids
-  table_tell replies ids h = record { first = h.first; order = h.order; small = h.small }
-
-  pub executions_tell : (order : List CommandId) (executions : Executions) → AreExecutions w order executions
-      → AreExecutions (Tell reader server ∷ w) order executions
-  executions_tell order executions h = record { all = h.all; right = h.right }
+pub floors_same : (w : Log) (o : Observation) → ReadsNothing o → (floors : BTreeMap ℕ ℕ) → AreFloors w floors
+    → AreFloors (o ∷ w) floors
+floors_same w (Lookup r key text) nothing floors h = absurd nothing
+floors_same w (Tell r p) nothing floors h = absurd nothing
+floors_same w o nothing floors h = record { seen = h.seen; least = h.least }

@@ -1,6 +1,5 @@
 -- The data of a judge stays right after a submission, an execution or a reply.
-use Rattle.std.proofs.Common.{◌≡◌, ◌≢◌, inl, inr, ℕ, zero, suc, ◌<◌, true, false, cond, ◌||◌, Bool, List, [], ◌∷◌, ◌++◌, Option, Some, None, is_some, length, option_map, slice_get, take, arith, refl, sym, subst, ap, ◌∙◌, ⊎_elim, length-append, append-nil}
-use Rattle.std.specs.Option.{option_or}
+use Rattle.std.proofs.Common.{◌≡◌, ◌≢◌, inl, inr, ℕ, ◌<◌, true, false, cond, ◌||◌, Bool, List, [], ◌∷◌, ◌++◌, Option, Some, None, is_some, length, option_map, slice_get, take, arith, refl, sym, subst, ap, ◌∙◌, ⊎_elim, length-append, append-nil}
 use Rattle.std.specs.Prelude.{IsSome}
 use Rattle.std.specs.List.{Contains}
 use Rattle.std.specs.Ordering.{nat_cmp}
@@ -8,18 +7,18 @@ use Rattle.std.specs.BTreeMap.{BTreeMap, Updates, get}
 use Rattle.std.proofs.lemmas.List.{take-append-le, take_all}
 use Rattle.mencius_base.specs.declared.command.Command.{Command}
 use Rattle.mencius_base.specs.declared.command.CommandId.{CommandId}
-use Rattle.mencius_base.specs.Command.{is_same_id}
 use Rattle.mencius_model.specs.KeyMap.{out}
 use Rattle.mencius_judge.specs.declared.judge.Execution.{Execution}
 use Rattle.mencius_judge.specs.declared.judge.Submission.{Submission}
+use Rattle.mencius_judge.specs.declared.observation.Answer.{Answer}
 use Rattle.mencius_judge.specs.declared.observation.Observation.TheVariants.{Submit, Execute, Reply}
-use Rattle.mencius_judge.specs.Log.{Log, command_of, commands_of, has_id, with_reply, reply_of}
+use Rattle.mencius_judge.specs.Log.{Log, acknowledged, command_of, commands_of, has_id, is_failed}
 use Rattle.mencius_judge.specs.Promises.{AreOneCommand, AreOneReply, WereSubmitted}
-use Rattle.mencius_judge.specs.Tables.{AreExecutions, AreHistories, AreReplies, AreSettled, AreSubmissions, Executions, IsOrder, Replies, identity_key, number_count}
-use Rattle.mencius_judge.proofs.promises.Identities.{get_here, get_there, has-append, id_cases, place_has, same_id, other_id}
-use Rattle.mencius_judge.proofs.observations.HistorySteps.{end_of}
+use Rattle.mencius_judge.specs.Tables.{AreExecutions, AreReplies, AreSettled, AreSubmissions, Executions, IsOrder, Replies, identity_key, number_count}
+use Rattle.mencius_judge.proofs.promises.Identities.{get_here, get_other, get_there, has-append, id_cases, other_id, place_has}
+use Rattle.mencius_judge.proofs.observations.RowSteps.{end_of}
 use Rattle.mencius_judge.proofs.promises.Logs.{contains_cons, kept_before, kept_command, new_before, new_command, other_command}
-use Rattle.mencius_judge.proofs.observations.OrderSteps.{executed_reply, kept_at, kept_out, split_end}
+use Rattle.mencius_judge.proofs.observations.OrderSteps.{kept_at, kept_out, split_end}
 
 -- ---- promises about commands and replies only
 
@@ -42,23 +41,15 @@ one_submit w c h last x y first second ids =
           ]
     ]
 
-pub one_execute : (w : Log) (p : ℕ) (id : CommandId) → AreOneCommand w → AreOneCommand (Execute p id ∷ w)
-one_execute w p id h x y first second =
+pub one_reply : (w : Log) (id : CommandId) (answer : Answer) → AreOneCommand w → AreOneCommand (Reply id answer ∷ w)
+one_reply w id answer h x y first second =
     h x y (before x first) (before y second)
   where
-    before : (z : Command) → Contains (Execute p id ∷ w) (Submit z) → Contains w (Submit z)
+    before : (z : Command) → Contains (Reply id answer ∷ w) (Submit z) → Contains w (Submit z)
     before z there =
-        elim (contains_cons (Execute p id) w (Submit z) there) [ inl e ↦ absurd (cc) | inr later ↦ later ]
+        elim (contains_cons (Reply id answer) w (Submit z) there) [ inl e ↦ absurd (cc) | inr later ↦ later ]
 
-pub one_reply : (w : Log) (id : CommandId) (text : Option (List ℕ)) → AreOneCommand w → AreOneCommand (Reply id text ∷ w)
-one_reply w id text h x y first second =
-    h x y (before x first) (before y second)
-  where
-    before : (z : Command) → Contains (Reply id text ∷ w) (Submit z) → Contains w (Submit z)
-    before z there =
-        elim (contains_cons (Reply id text) w (Submit z) there) [ inl e ↦ absurd (cc) | inr later ↦ later ]
-
-submitted_reply : (w : Log) (c : Command) (id : CommandId) (x : Option (List ℕ)) → Contains (Submit c ∷ w) (Reply id x)
+submitted_reply : (w : Log) (c : Command) (id : CommandId) (x : Answer) → Contains (Submit c ∷ w) (Reply id x)
     → Contains w (Reply id x)
 submitted_reply w c id x there =
     elim (contains_cons (Submit c) w (Reply id x) there) [ inl e ↦ absurd (cc) | inr later ↦ later ]
@@ -66,49 +57,37 @@ submitted_reply w c id x there =
 pub replies_submit : (w : Log) (c : Command) → AreOneReply w → AreOneReply (Submit c ∷ w)
 replies_submit w c h id x y first second = h id x y (submitted_reply w c id x first) (submitted_reply w c id y second)
 
-pub replies_execute : (w : Log) (p : ℕ) (z : CommandId) → AreOneReply w → AreOneReply (Execute p z ∷ w)
-replies_execute w p z h id x y first second =
-    h id x y (executed_reply w p z id x first) (executed_reply w p z id y second)
-
-pub replies_reply : (w : Log) (id : CommandId) (text : Option (List ℕ)) → AreOneReply w
-    → ((x : Option (List ℕ)) → Contains w (Reply id x) → text ≡ x) → AreOneReply (Reply id text ∷ w)
-replies_reply w id text h last z x y first second =
-    elim (contains_cons (Reply id text) w (Reply z x) first) [
+pub replies_reply : (w : Log) (id : CommandId) (answer : Answer) → AreOneReply w
+    → ((x : Answer) → Contains w (Reply id x) → answer ≡ x) → AreOneReply (Reply id answer ∷ w)
+replies_reply w id answer h last z x y first second =
+    elim (contains_cons (Reply id answer) w (Reply z x) first) [
       | inl e ↦
           let ids : id ≡ z = cc in
-          let texts : text ≡ x = cc in
-          elim (contains_cons (Reply id text) w (Reply z y) second) [
-            | inl f ↦ (let also : text ≡ y = cc in cc)
-            | inr there ↦ sym texts ∙ last y (subst (λ (a : CommandId). Contains w (Reply a y)) (sym ids) there)
+          let answers : answer ≡ x = cc in
+          elim (contains_cons (Reply id answer) w (Reply z y) second) [
+            | inl f ↦ (let also : answer ≡ y = cc in cc)
+            | inr there ↦ sym answers ∙ last y (subst (λ (a : CommandId). Contains w (Reply a y)) (sym ids) there)
           ]
       | inr here ↦
-          elim (contains_cons (Reply id text) w (Reply z y) second) [
+          elim (contains_cons (Reply id answer) w (Reply z y) second) [
             | inl f ↦
                 let ids : id ≡ z = cc in
-                let texts : text ≡ y = cc in
-                sym (last x (subst (λ (a : CommandId). Contains w (Reply a x)) (sym ids) here)) ∙ texts
+                let answers : answer ≡ y = cc in
+                sym (last x (subst (λ (a : CommandId). Contains w (Reply a x)) (sym ids) here)) ∙ answers
             | inr there ↦ h z x y here there
           ]
     ]
 
--- ---- the commands with a reply
+-- ---- the acknowledged commands
 
--- a further reply adds its command to the commands with a reply, or adds nothing
-with_reply_more : (w : Log) (x : CommandId) (text : Option (List ℕ))
-    → (ids : List CommandId) × (with_reply (Reply x text ∷ w) ≡ with_reply w ++ ids)
-with_reply_more w x text = by_test (is_some (reply_of w x))
+-- a further reply adds its command to the acknowledged commands, or adds nothing
+pub acknowledged_more : (w : Log) (x : CommandId) (answer : Answer)
+    → (ids : List CommandId) × (acknowledged (Reply x answer ∷ w) ≡ acknowledged w ++ ids)
+acknowledged_more w x answer = by_test (is_failed answer || has_id (acknowledged w) x)
   where
-    by_test : (d : Bool) → (ids : List CommandId) × (cond d (with_reply w) (with_reply w ++ x ∷ []) ≡ with_reply w ++ ids)
-    by_test true = ([], sym (append-nil (with_reply w)))
+    by_test : (d : Bool) → (ids : List CommandId) × (cond d (acknowledged w) (acknowledged w ++ x ∷ []) ≡ acknowledged w ++ ids)
+    by_test true = ([], sym (append-nil (acknowledged w)))
     by_test false = (x ∷ [], refl)
-
-pub with_reply_new : (w : Log) (x : CommandId) (text : Option (List ℕ)) → is_some (reply_of w x) ≡ false
-    → with_reply (Reply x text ∷ w) ≡ with_reply w ++ x ∷ []
-with_reply_new w x text e = ap (λ d. cond d (with_reply w) (with_reply w ++ x ∷ [])) e
-
-pub with_reply_again : (w : Log) (x : CommandId) (text : Option (List ℕ)) → is_some (reply_of w x) ≡ true
-    → with_reply (Reply x text ∷ w) ≡ with_reply w
-with_reply_again w x text e = ap (λ d. cond d (with_reply w) (with_reply w ++ x ∷ [])) e
 
 -- ---- the tables of submissions
 
@@ -140,7 +119,7 @@ module _ (w : Log) (rows : BTreeMap ℕ Submission) (h : AreSubmissions w rows) 
 
   pub submissions_new : (c : Command) (new : BTreeMap ℕ Submission) (s : Submission) → c.id.number < number_count
       → command_of w c.id ≡ None → Updates nat_cmp rows new (identity_key c.id) (Some s) → s.command ≡ c
-      → s.replies_before ≡ length (with_reply w) → AreSubmissions (Submit c ∷ w) new
+      → s.acknowledged ≡ length (acknowledged w) → AreSubmissions (Submit c ∷ w) new
   submissions_new c new s small none updates command count = record {
     found = λ id less. ⊎_elim
         (λ (eq : c.id ≡ id). subst (λ (a : CommandId). option_map (λ (s : Submission). s.command) (get nat_cmp new (identity_key a))
@@ -156,10 +135,10 @@ module _ (w : Log) (rows : BTreeMap ℕ Submission) (h : AreSubmissions w rows) 
         let same : s ≡ t =
         (let both : Some s ≡ Some t =
         sym (get_here rows new c.id s updates) ∙ ap (λ (a : CommandId). get nat_cmp new (identity_key a)) eq ∙ there in cc) in
-        let size : t.replies_before ≡ length (with_reply w) = ap (λ (u : Submission). u.replies_before) (sym same) ∙ count in (
+        let size : t.acknowledged ≡ length (acknowledged w) = ap (λ (u : Submission). u.acknowledged) (sym same) ∙ count in (
           omega (arith, size),
           new_before w c id (ap (command_of w) (sym eq) ∙ none)
-              ∙ sym (take_all t.replies_before (with_reply w) (omega (arith, size))),
+              ∙ sym (take_all t.acknowledged (acknowledged w) (omega (arith, size))),
         ))
         (λ (ne : c.id ≢ id).
         let old : get nat_cmp rows (identity_key id) ≡ Some t =
@@ -169,94 +148,22 @@ module _ (w : Log) (rows : BTreeMap ℕ Submission) (h : AreSubmissions w rows) 
         (id_cases c.id id);
   }
 
-  pub submissions_execute : (p : ℕ) (x : CommandId) → AreSubmissions (Execute p x ∷ w) rows
-  submissions_execute p x = record { found = h.found; before = h.before }
-
-  pub submissions_reply : (x : CommandId) (text : Option (List ℕ)) → AreSubmissions (Reply x text ∷ w) rows
-  submissions_reply x text = record {
+  pub submissions_reply : (x : CommandId) (answer : Answer) → AreSubmissions (Reply x answer ∷ w) rows
+  submissions_reply x answer = record {
     found = h.found;
     before = λ id s small there.
         let r = h.before id s small there in
-        let more = with_reply_more w x text in (
-          omega (arith, r.0, ap length more.1, length-append (with_reply w) more.0),
-          r.1 ∙ sym (ap (take s.replies_before) more.1 ∙ take-append-le s.replies_before (with_reply w) more.0 r.0),
+        let more = acknowledged_more w x answer in (
+          omega (arith, r.0, ap length more.1, length-append (acknowledged w) more.0),
+          r.1 ∙ sym (ap (take s.acknowledged) more.1 ∙ take-append-le s.acknowledged (acknowledged w) more.0 r.0),
         );
   }
 
--- a reply to another command does not change the first reply to this one
-reply_elsewhere : (w : Log) (x : CommandId) (text : Option (List ℕ)) (id : CommandId) → x ≢ id
-    → (o : Option (Option (List ℕ))) → option_or o (cond (is_same_id x id) (Some text) None) ≡ o
-reply_elsewhere w x text id ne None = ap (λ d. cond d (Some text) None) (other_id x id ne)
-reply_elsewhere w x text id ne (Some y) = refl
-
--- ---- histories, replies and executions
-
-pub histories_submit : (w : Log) (c : Command) (order : List CommandId) (counts : List ℕ) → AreHistories w order counts
-    → AreHistories (Submit c ∷ w) order counts
-histories_submit w c order counts h = record { each = h.each; within = h.within; some = h.some }
-
-pub histories_reply : (w : Log) (x : CommandId) (text : Option (List ℕ)) (order : List CommandId) (counts : List ℕ)
-    → AreHistories w order counts → AreHistories (Reply x text ∷ w) order counts
-histories_reply w x text order counts h = record { each = h.each; within = h.within; some = h.some }
+-- ---- replies and executions
 
 pub table_submit : (w : Log) (c : Command) (replies : Replies) (ids : List CommandId) → AreReplies w replies ids
     → AreReplies (Submit c ∷ w) replies ids
 table_submit w c replies ids h = record { first = h.first; order = h.order; small = h.small }
-
-pub table_execute : (w : Log) (p : ℕ) (x : CommandId) (replies : Replies) (ids : List CommandId) → AreReplies w replies ids
-    → AreReplies (Execute p x ∷ w) replies ids
-table_execute w p x replies ids h = record { first = h.first; order = h.order; small = h.small }
-
-pub table_reply : (w : Log) (x : CommandId) (text : Option (List ℕ)) (replies new : Replies) (ids : List CommandId)
-    → AreReplies w replies ids → x.number < number_count → Updates nat_cmp replies new (identity_key x) (Some text)
-    → reply_of w x ≡ None → AreReplies (Reply x text ∷ w) new (ids ++ x ∷ [])
-table_reply w x text replies new ids h small updates none = record {
-  first = λ id less. ⊎_elim
-      (λ (eq : x ≡ id). subst (λ (a : CommandId). get nat_cmp new (identity_key a) ≡ reply_of (Reply x text ∷ w) a) eq
-      (get_here replies new x text updates ∙ sym here))
-      (λ (ne : x ≢ id). get_there replies new x id text updates small less ne
-      ∙ h.first id less ∙ sym (reply_elsewhere w x text id ne (reply_of w id)))
-      (id_cases x id);
-  order = ap (λ ys. ys ++ x ∷ []) h.order ∙ sym grown;
-  small = λ n id e. all_small (with_reply w) h.small n id (ap (λ ys. slice_get ys n) (sym grown) ∙ e);
-}
-  where
-    grown : with_reply (Reply x text ∷ w) ≡ with_reply w ++ x ∷ []
-    grown = with_reply_new w x text (ap is_some none)
-
-    here : reply_of (Reply x text ∷ w) x ≡ Some text
-    here =
-        ap (λ o. option_or o (cond (is_same_id x x) (Some text) None)) none
-        ∙ ap (λ d. cond d (Some text) None) (same_id x)
-
-    all_small : (xs : List CommandId) → ((n : ℕ) (id : CommandId) → slice_get xs n ≡ Some id → id.number < number_count)
-        → (n : ℕ) (id : CommandId) → slice_get (xs ++ x ∷ []) n ≡ Some id → id.number < number_count
-    all_small [] each zero id e =
-        let same_one : x ≡ id = cc in subst (λ (a : CommandId). a.number < number_count) same_one small
-    all_small [] each (suc n) id e = absurd (cc)
-    all_small (z ∷ xs) each zero id e = each zero id e
-    all_small (z ∷ xs) each (suc n) id e = all_small xs (λ m y g. each (suc m) y g) n id e
-
--- another reply to a command with a reply leaves the tables right
-pub table_again : (w : Log) (x : CommandId) (text : Option (List ℕ)) (replies : Replies) (ids : List CommandId)
-    → AreReplies w replies ids → is_some (reply_of w x) ≡ true → AreReplies (Reply x text ∷ w) replies ids
-table_again w x text replies ids h there = record {
-  first = λ id less. h.first id less ∙ sym (kept id);
-  order = h.order ∙ sym (with_reply_again w x text there);
-  small = λ n id e. h.small n id (ap (λ ys. slice_get ys n) (sym (with_reply_again w x text there)) ∙ e);
-}
-  where
-    stays : (o : Option (Option (List ℕ))) (other : Option (Option (List ℕ))) → is_some o ≡ true → option_or o other
-        ≡ o
-    stays None other e = absurd (cc)
-    stays (Some y) other e = refl
-
-    kept : (id : CommandId) → reply_of (Reply x text ∷ w) id ≡ reply_of w id
-    kept id = ⊎_elim
-        (λ (eq : x ≡ id). stays (reply_of w id) (cond (is_same_id x id) (Some text) None)
-        (ap (λ (a : CommandId). is_some (reply_of w a)) (sym eq) ∙ there))
-        (λ (ne : x ≢ id). reply_elsewhere w x text id ne (reply_of w id))
-        (id_cases x id)
 
 pub executions_submit : (w : Log) (c : Command) (order : List CommandId) (executions : Executions) → IsOrder w order
     → AreExecutions w order executions → AreExecutions (Submit c ∷ w) order executions
@@ -267,19 +174,15 @@ executions_submit w c order executions facts h = record {
       (r.0 ∙ sym (kept_out w c order front back id d facts.known e), r.1);
 }
 
-pub executions_execute : (w : Log) (p : ℕ) (x : CommandId) (order : List CommandId) (executions : Executions)
-    → AreExecutions w order executions → AreExecutions (Execute p x ∷ w) order executions
-executions_execute w p x order executions h = record { all = h.all; right = h.right }
-
-pub executions_reply : (w : Log) (x : CommandId) (text : Option (List ℕ)) (order : List CommandId) (executions : Executions)
-    → AreExecutions w order executions → AreExecutions (Reply x text ∷ w) order executions
-executions_reply w x text order executions h = record { all = h.all; right = h.right }
+pub executions_reply : (w : Log) (x : CommandId) (answer : Answer) (order : List CommandId) (executions : Executions)
+    → AreExecutions w order executions → AreExecutions (Reply x answer ∷ w) order executions
+executions_reply w x answer order executions h = record { all = h.all; right = h.right }
 
 pub executions_lead : (w : Log) (p : ℕ) (x : CommandId) (c : Command) (order : List CommandId) (executions new : Executions)
     (execution : Execution) → AreExecutions w order executions → x.number < number_count → has_id order x ≡ false
-    → command_of w x ≡ Some c → execution.reply ≡ out (commands_of w order) c → execution.place ≡ length order
+    → command_of w x ≡ Some c → execution.held ≡ out (commands_of w order) c → execution.place ≡ length order
     → Updates nat_cmp executions new (identity_key x) (Some execution) → AreExecutions (Execute p x ∷ w) (order ++ x ∷ []) new
-executions_lead w p x c order executions new execution h small absent command reply place updates = record {
+executions_lead w p x c order executions new execution h small absent command held place updates = record {
   all = λ id less. ⊎_elim
       (λ (eq : x ≡ id). subst (λ (a : CommandId). is_some (get nat_cmp new (identity_key a))
       ≡ has_id (order ++ x ∷ []) a) eq
@@ -297,7 +200,7 @@ executions_lead w p x c order executions new execution h small absent command re
             let one : execution ≡ y = cc in
             let commands : Some c ≡ Some d = sym command ∙ ap (command_of w) (sym at.1) ∙ is in
             let same : c ≡ d = cc in (
-              ap (λ (z : Execution). z.reply) (sym one) ∙ reply ∙ ap (λ ids. out (commands_of w ids) c) (sym at.0)
+              ap (λ (z : Execution). z.held) (sym one) ∙ held ∙ ap (λ ids. out (commands_of w ids) c) (sym at.0)
                   ∙ ap (out (commands_of w front)) same,
               ap (λ (z : Execution). z.place) (sym one) ∙ place ∙ ap length (sym at.0),
             )
@@ -318,29 +221,24 @@ executions_lead w p x c order executions new execution h small absent command re
         at [] = refl
         at (y ∷ ys) = at ys
 
-pub settled_lead : (ids : List CommandId) (executions new : Executions) (count : ℕ) (x : CommandId) (execution : Execution)
-    → AreSettled ids executions count → Updates nat_cmp executions new (identity_key x) (Some execution)
-    → AreSettled ids new count
-settled_lead ids executions new count x execution h updates = record {
+-- a further execution leaves the commands that are known to be settled where they are
+pub settled_lead : (ids : List CommandId) (executions new : Executions) (count highest : ℕ)
+    (x : CommandId) (execution : Execution) → AreSettled ids executions count highest
+    → get nat_cmp executions (identity_key x) ≡ None
+    → Updates nat_cmp executions new (identity_key x) (Some execution) → AreSettled ids new count highest
+settled_lead ids executions new count highest x execution h none updates = record {
   within = h.within;
-  each = λ n id less there. kept (identity_key id) (h.each n id less there);
+  each = λ n id less there. let r = h.each n id less there in (r.0, kept (identity_key id) r.0 r.1, r.2);
+  some = ⊎_elim (λ (none_is : (count ≡ 0) × (highest ≡ 0)). inl none_is)
+      (λ (r : (n : ℕ) × (id : CommandId) × (y : Execution) × (n < count) × (slice_get ids n ≡ Some id)
+      × (get nat_cmp executions (identity_key id) ≡ Some y) × (y.place ≡ highest)).
+      inr (r.0, r.1, r.2, r.3, r.4, kept (identity_key r.1) r.2 r.5, r.6))
+      h.some;
 }
   where
-    kept : (key : ℕ) → is_some (get nat_cmp executions key) ≡ true → is_some (get nat_cmp new key) ≡ true
-    kept key e = grind arith
-
-pub settled_reply : (ids : List CommandId) (executions : Executions) (count : ℕ) (x : CommandId)
-    → AreSettled ids executions count → AreSettled (ids ++ x ∷ []) executions count
-settled_reply ids executions count x h = record {
-  within = omega (arith, h.within, length-append ids (x ∷ []));
-  each = λ n id less there. h.each n id less (first ids n id (omega (arith, h.within, less)) there);
-}
-  where
-    first : (xs : List CommandId) (n : ℕ) (id : CommandId) → n < length xs → slice_get (xs ++ x ∷ []) n ≡ Some id
-        → slice_get xs n ≡ Some id
-    first [] n id less e = absurd (omega arith)
-    first (z ∷ xs) zero id less e = e
-    first (z ∷ xs) (suc n) id less e = first xs n id (omega arith) e
+    kept : (key : ℕ) (y : Execution) → get nat_cmp executions key ≡ Some y → get nat_cmp new key ≡ Some y
+    kept key y e = get_other executions new (identity_key x) key (Some execution) updates (λ same.
+        let absent : get nat_cmp executions key ≡ None = ap (get nat_cmp executions) (sym same) ∙ none in absurd (cc)) ∙ e
 
 -- ---- broken promises
 
@@ -351,6 +249,6 @@ some_none (Some c) e h = cc
 pub not_submitted : (w : Log) (p : ℕ) (id : CommandId) → command_of w id ≡ None → WereSubmitted (Execute p id ∷ w) → ⊥
 not_submitted w p id none h = let there : IsSome (command_of w id) = h.0 in absurd (some_none (command_of w id) none there)
 
-pub not_submitted_reply : (w : Log) (id : CommandId) (text : Option (List ℕ)) → command_of w id ≡ None
-    → WereSubmitted (Reply id text ∷ w) → ⊥
-not_submitted_reply w id text none h = let there : IsSome (command_of w id) = h.0 in absurd (some_none (command_of w id) none there)
+pub not_submitted_reply : (w : Log) (id : CommandId) (answer : Answer) → command_of w id ≡ None
+    → WereSubmitted (Reply id answer ∷ w) → ⊥
+not_submitted_reply w id answer none h = let there : IsSome (command_of w id) = h.0 in absurd (some_none (command_of w id) none there)

@@ -1,5 +1,5 @@
 -- If a judge's tables contradict an observation, the observation breaks a promise.
-use Rattle.std.proofs.Common.{◌≡◌, ◌≢◌, ℕ, zero, suc, ◌<◌, ◌≤◌, Bool, true, false, List, [], ◌∷◌, ◌++◌, Option, Some, None, is_some, slice_get, take, arith, refl, sym, ap, ◌∙◌}
+use Rattle.std.proofs.Common.{◌≡◌, ◌≢◌, ℕ, zero, suc, ◌<◌, ◌≤◌, Bool, true, false, List, [], ◌∷◌, ◌++◌, Option, Some, None, is_some, slice_get, take, arith, refl, sym, subst, ap, ◌∙◌}
 use Rattle.std.specs.Prelude.{IsTrue}
 use Rattle.std.specs.List.{Contains}
 use Rattle.std.specs.Ordering.{nat_cmp}
@@ -7,10 +7,14 @@ use Rattle.std.specs.BTreeMap.{get}
 use Rattle.std.proofs.lemmas.List.{length-take}
 use Rattle.mencius_base.specs.declared.command.Command.{Command}
 use Rattle.mencius_base.specs.declared.command.CommandId.{CommandId}
+use Rattle.mencius_judge.specs.declared.histories.Row.{Row}
 use Rattle.mencius_judge.specs.declared.judge.Execution.{Execution}
+use Rattle.mencius_judge.specs.declared.observation.Answer.{Answer}
 use Rattle.mencius_judge.specs.declared.observation.Observation.TheVariants.{Submit, Execute, Reply}
-use Rattle.mencius_judge.specs.Log.{Log, command_of, has_id, history, with_reply, with_reply_before, reply_of}
+use Rattle.mencius_judge.specs.Answers.{IsRight}
+use Rattle.mencius_judge.specs.Log.{Log, acknowledged, acknowledged_before, command_of, has_id, history, reply_of}
 use Rattle.mencius_judge.specs.Promises.{AreOneCommand, AreOneReply, AreRightReplies, StandBehindReplies}
+use Rattle.mencius_judge.specs.Rows.{Places}
 use Rattle.mencius_judge.specs.Tables.{AreExecutions, AreHistories, AreSettled, Executions, identity_key, number_count}
 use Rattle.mencius_judge.specs.Violations.{IsAnswerAt}
 use Rattle.mencius_judge.proofs.promises.Identities.{has_place, place_has}
@@ -25,18 +29,18 @@ two_commands w c d found ne h =
     h d c (contains_later (Submit c) w (Submit d) there.0) (contains_here (Submit c) w (Submit c) refl) there.1 in
     ne (ap (λ (x : Command). x.op) same)
 
-pub two_replies : (w : Log) (id : CommandId) (x text : Option (List ℕ)) → reply_of w id ≡ Some x → x ≢ text
-    → AreOneReply (Reply id text ∷ w) → ⊥
-two_replies w id x text found ne h =
-    ne (h id x text (contains_later (Reply id text) w (Reply id x) (reply_found w id x found))
-    (contains_here (Reply id text) w (Reply id text) refl))
+pub two_replies : (w : Log) (id : CommandId) (x y : Answer) → reply_of w id ≡ Some x → x ≢ y
+    → AreOneReply (Reply id y ∷ w) → ⊥
+two_replies w id x y found ne h =
+    ne (h id x y (contains_later (Reply id y) w (Reply id x) (reply_found w id x found))
+    (contains_here (Reply id y) w (Reply id y) refl))
 
 pub too_early : (w : Log) (p : ℕ) (id x : CommandId) (order : List CommandId)
-    → history (Execute p id ∷ w) p ≡ order ++ id ∷ [] → has_id (with_reply_before w id) x ≡ true
+    → history (Execute p id ∷ w) p ≡ order ++ id ∷ [] → has_id (acknowledged_before w id) x ≡ true
     → has_id order x ≡ false
     → StandBehindReplies (Execute p id ∷ w) → ⊥
 too_early w p id x order grown before absent h =
-    clash (has_id order x) absent (h p order [] id x grown (as_true (has_id (with_reply_before w id) x) before))
+    clash (has_id order x) absent (h p order [] id x grown (as_true (has_id (acknowledged_before w id) x) before))
   where
     as_true : (d : Bool) → d ≡ true → IsTrue d
     as_true true e = refl
@@ -46,11 +50,12 @@ too_early w p id x order grown before absent h =
     clash true e t = cc
     clash false e t = cc
 
--- the table of executions has the place of a command and the right reply there
-pub answer_at : (w : Log) (id : CommandId) (c : Command) (order : List CommandId) (counts : List ℕ) (executions : Executions)
-    (x : Execution) → AreHistories w order counts → AreExecutions w order executions → id.number < number_count
-    → command_of w id ≡ Some c → get nat_cmp executions (identity_key id) ≡ Some x → IsAnswerAt w id x.place x.reply
-answer_at w id c order counts executions x histories h small command found =
+-- the table of executions has the place of a command and the text that its key holds there
+pub answer_at : (w : Log) (id : CommandId) (c : Command) (order : List CommandId) (places : Places) (rows : List Row)
+    (executions : Executions) (x : Execution) → AreHistories w order places rows → AreExecutions w order executions
+    → id.number < number_count → command_of w id ≡ Some c → get nat_cmp executions (identity_key id) ≡ Some x
+    → IsAnswerAt w id c x.place x.held
+answer_at w id c order places rows executions x histories h small command found =
     let inside : has_id order id ≡ true = sym (h.all id small) ∙ ap is_some found in
     let parts = split_at order id inside in
     let r = h.right id x parts.0 parts.1 c small found parts.2 command in
@@ -58,53 +63,53 @@ answer_at w id c order counts executions x histories h small command found =
       server = histories.some.0;
       front = parts.0;
       back = parts.1;
-      command = c;
       splits = sym histories.some.1 ∙ parts.2;
       place_is = r.1;
       there = command;
       is = r.0;
     }
 
-pub answer_after : (w : Log) (y : CommandId) (text : Option (List ℕ)) (id : CommandId) (n : ℕ) (x : Option (List ℕ))
-    → IsAnswerAt w id n x → IsAnswerAt (Reply y text ∷ w) id n x
-answer_after w y text id n x at = record {
+pub answer_after : (w : Log) (y : CommandId) (answer : Answer) (id : CommandId) (c : Command) (n : ℕ) (x : Option (List ℕ))
+    → IsAnswerAt w id c n x → IsAnswerAt (Reply y answer ∷ w) id c n x
+answer_after w y answer id c n x at = record {
   server = at.server;
   front = at.front;
   back = at.back;
-  command = at.command;
   splits = at.splits;
   place_is = at.place_is;
   there = at.there;
   is = at.is;
 }
 
--- a reply that differs from the right one breaks the promise RightReply
-pub wrong_reply : (w : Log) (id : CommandId) (place : ℕ) (expected found : Option (List ℕ)) → IsAnswerAt w id place expected
-    → Contains w (Reply id found) → expected ≢ found → AreRightReplies w → ⊥
-wrong_reply w id place expected found at there ne right =
-    ne (at.is ∙ sym (right at.server at.front at.back id at.command found at.splits at.there there))
+-- a reply that is not right breaks the promise RightReply
+pub wrong_reply : (w : Log) (id : CommandId) (c : Command) (place : ℕ) (expected : Option (List ℕ)) (found : Answer)
+    → IsAnswerAt w id c place expected → Contains w (Reply id found) → (IsRight c.op expected found → ⊥)
+    → AreRightReplies w → ⊥
+wrong_reply w id c place expected found at there wrong right =
+    wrong (subst (λ held. IsRight c.op held found) (sym at.is)
+    (right at.server at.front at.back id c found at.splits at.there there))
 
--- ---- the commands with a reply that are in the longest history
+-- ---- the acknowledged commands that are in the longest history
 
 module _ (w : Log) (order : List CommandId) (executions : Executions)
-    (small : (n : ℕ) (id : CommandId) → slice_get (with_reply w) n ≡ Some id → id.number < number_count)
+    (small : (n : ℕ) (id : CommandId) → slice_get (acknowledged w) n ≡ Some id → id.number < number_count)
     (h : AreExecutions w order executions) where
-  pub settled_stand : (ids : List CommandId) (settled behind : ℕ) (y : CommandId) → ids ≡ with_reply w
-      → AreSettled ids executions settled → behind ≤ settled → has_id (take behind (with_reply w)) y ≡ true
+  pub settled_stand : (ids : List CommandId) (settled highest behind : ℕ) (y : CommandId) → ids ≡ acknowledged w
+      → AreSettled ids executions settled highest → behind ≤ settled → has_id (take behind (acknowledged w)) y ≡ true
       → has_id order y ≡ true
-  settled_stand ids settled behind y listed facts le inside =
-      let place = has_place (take behind (with_reply w)) y inside in
-      let there = whole_get behind (with_reply w) place.0 y place.2 in
-      let less : place.0 < settled = omega (arith, place.1, length-take behind (with_reply w), le) in
-      sym (h.all y (small place.0 y there))
-      ∙ facts.each place.0 y less (ap (λ ys. slice_get ys place.0) listed ∙ there)
+  settled_stand ids settled highest behind y listed facts le inside =
+      let place = has_place (take behind (acknowledged w)) y inside in
+      let there = whole_get behind (acknowledged w) place.0 y place.2 in
+      let less : place.0 < settled = omega (arith, place.1, length-take behind (acknowledged w), le) in
+      let known = facts.each place.0 y less (ap (λ ys. slice_get ys place.0) listed ∙ there) in
+      sym (h.all y (small place.0 y there)) ∙ ap is_some known.1
 
-  -- the first command with a reply that was not executed is not in the longest history
-  pub unsettled_before : (settled behind : ℕ) (y : CommandId) → settled < behind → slice_get (with_reply w) settled ≡ Some y
+  -- the first acknowledged command that was not executed is not in the longest history
+  pub unsettled_before : (settled behind : ℕ) (y : CommandId) → settled < behind → slice_get (acknowledged w) settled ≡ Some y
       → get nat_cmp executions (identity_key y) ≡ None
-      → (has_id (take behind (with_reply w)) y ≡ true) × (has_id order y ≡ false)
+      → (has_id (take behind (acknowledged w)) y ≡ true) × (has_id order y ≡ false)
   unsettled_before settled behind y less there none = (
-    place_has (take behind (with_reply w)) y settled (taken (with_reply w) behind settled y less there),
+    place_has (take behind (acknowledged w)) y settled (taken (acknowledged w) behind settled y less there),
     sym (h.all y (small settled y there)) ∙ ap is_some none,
   )
     where

@@ -1,16 +1,18 @@
 -- The counts that a judge returns are the counts of the log that it has seen.
-use Rattle.std.proofs.Common.{◌≡◌, ◌+◌, ℕ, suc, Bool, true, false, cond, not, List, [], ◌∷◌, Some, count_by, is_some, length, slice_get, arith, refl, sym, ap, ◌∙◌}
+use Rattle.std.proofs.Common.{◌≡◌, ◌+◌, ℕ, suc, Bool, true, false, cond, not, List, [], ◌∷◌, Some, count_by, is_some, length, map, slice_get, arith, refl, sym, ap, ◌∙◌}
 use Rattle.std.proofs.lemmas.List.Sums.{sum_by-cons}
 use Rattle.mencius_base.specs.declared.command.Command.{Command}
 use Rattle.mencius_base.specs.declared.command.CommandId.{CommandId}
 use Rattle.mencius_judge.specs.declared.counts.Counts.{Counts}
 use Rattle.mencius_judge.specs.declared.judge.Judge.{Judge}
 use Rattle.mencius_judge.specs.declared.observation.Observation.TheVariants.{Submit}
-use Rattle.mencius_judge.specs.Counts.{AreCounts, command_count, is_some_length}
+use Rattle.mencius_judge.specs.Counts.{AreCounts, command_count, least_of}
 use Rattle.mencius_judge.specs.Judged.{HasSeenLog}
-use Rattle.mencius_judge.specs.Log.{Log, command_of, has_id, history, with_reply}
+use Rattle.mencius_judge.specs.Log.{Log, acknowledged, command_of, has_id, history, servers_of}
+use Rattle.mencius_judge.specs.Rows.{row_count}
 use Rattle.mencius_judge.specs.Tables.{has_no_place}
-use Rattle.mencius_judge.proofs.observations.Leads.{size_is}
+use Rattle.mencius_judge.proofs.observations.HistorySteps.{rows_are, size_is, size_of}
+use Rattle.mencius_judge.proofs.observations.RowSteps.{rows_length}
 
 -- ---- commands
 
@@ -36,26 +38,28 @@ same_count f g (x ∷ xs) h =
 -- ---- the counts of a judge
 
 pub counted : (j : Judge) (w : Log) (c : Counts) → HasSeenLog j w
-    → c.servers ≡ count_by is_some_length j.histories.counts.items → c.commands ≡ j.commands
-    → c.executed ≡ length j.histories.order.items → c.replies ≡ length j.with_reply.items
-    → c.open_replies ≡ count_by (has_no_place j.executions) j.with_reply.items → c.lookups ≡ j.lookups → AreCounts w c
-counted j w c h servers commands executed replies open_replies lookups =
+    → c.servers ≡ length j.histories.rows.items → c.commands ≡ j.commands
+    → c.executed ≡ length j.histories.order.items → c.replies ≡ j.replied
+    → c.open_replies ≡ count_by (has_no_place j.executions) j.acknowledged.items → c.lookups ≡ j.lookups
+    → c.shortest ≡ least_of (map row_count j.histories.rows.items) → AreCounts w c
+counted j w c h servers commands executed replies open_replies lookups shortest =
     let q = h.histories.some.0 in
     let order = j.histories.order.items in
+    let places = j.histories.places in
+    let rows = j.histories.rows.items in
     let longest : order ≡ history w q = h.histories.some.1 in
     record {
-      lengths = j.histories.counts.items;
-      each = λ p. sym (size_is j w p h);
-      servers = servers;
+      servers = servers ∙ rows_length (size_of w) (servers_of w) places rows (rows_are w order places rows h.histories);
       commands = commands ∙ h.commands;
       longest = q;
-      within = λ p. (let size = size_is j w p h in
+      within = λ p. (let size = size_is w order places rows h.histories p in
           let most = h.histories.within p in
           let whole : length order ≡ length (history w q) = ap length longest in omega (arith, size, most, whole));
       executed = executed ∙ ap length longest;
-      replies = replies ∙ ap length h.replies.order;
+      shortest = shortest ∙ ap least_of h.histories.lengths;
+      replies = replies ∙ h.replied;
       open_replies = open_replies ∙ ap (count_by (has_no_place j.executions)) h.replies.order
-          ∙ same_count (has_no_place j.executions) (λ id. not (has_id (history w q) id)) (with_reply w) (λ n id there.
+          ∙ same_count (has_no_place j.executions) (λ id. not (has_id (history w q) id)) (acknowledged w) (λ n id there.
           ap not (h.executions.all id (h.replies.small n id there)
           ∙ ap (λ (ids : List CommandId). has_id ids id) longest));
       lookups = lookups ∙ h.lookups;

@@ -1,5 +1,5 @@
 -- A new judge has seen the empty log.
-use Rattle.std.proofs.Common.{◌≡◌, ℕ, zero, suc, List, [], ◌∷◌, ◌++◌, Some, None, get_or, is_some, option_map, replicate, slice_get, take, arith, refl, sym, ap, ◌∙◌}
+use Rattle.std.proofs.Common.{◌≡◌, inl, ℕ, List, [], ◌∷◌, ◌++◌, Some, None, is_some, map, option_map, slice_get, take, arith, refl, sym, ap, ◌∙◌}
 use Rattle.std.proofs.Math.Seq.{take-nil}
 use Rattle.std.specs.Prelude.{unwrap_or}
 use Rattle.std.specs.Ordering.{nat_cmp}
@@ -7,6 +7,9 @@ use Rattle.std.specs.BTreeMap.{BTreeMap, IsEmpty, get}
 use Rattle.std.specs.Map.{lookup}
 use Rattle.std.specs.BTreeMap.{is_at}
 use Rattle.mencius_base.specs.declared.command.CommandId.{CommandId}
+use Rattle.mencius_judge.specs.Rows.{Places, count_in, count_of, row_at, row_count}
+use Rattle.mencius_judge.specs.declared.histories.Row.{Row}
+use Rattle.mencius_judge.specs.declared.judge.FirstReply.{FirstReply}
 use Rattle.mencius_judge.specs.declared.judge.Submission.{Submission}
 use Rattle.mencius_judge.specs.Promises.{AreOneCommand, AreOneReply}
 use Rattle.mencius_judge.specs.declared.observation.Observation.TheVariants.{Reply, Submit}
@@ -30,17 +33,15 @@ no_submissions rows e = record {
       let none : get nat_cmp rows (identity_key id) ≡ None = no_entry rows (identity_key id) e in absurd (cc);
 }
 
-zeros : (n p : ℕ) → get_or {A = ℕ} (replicate n 0) p 0 ≡ 0
-zeros zero p = refl
-zeros (suc n) zero = refl
-zeros (suc n) (suc p) = zeros n p
-
-pub no_histories : (order : List CommandId) (counts : List ℕ) → order ≡ [] → counts ≡ replicate 256 0
-    → AreHistories [] order counts
-no_histories order counts e f = record {
-  each = λ p. sym (ap (take (get_or counts p 0)) e ∙ take-nil (get_or counts p 0));
-  within = λ p. let none : get_or counts p 0 ≡ 0 = ap (λ xs. get_or xs p 0) f ∙ zeros 256 p in omega arith;
+pub no_histories : (order : List CommandId) (places : Places) (rows : List Row) → order ≡ []
+    → ((p : ℕ) → get nat_cmp places p ≡ None) → rows ≡ [] → AreHistories [] order places rows
+no_histories order places rows e none f = record {
+  each = λ p. sym (ap (take (count_of places rows p)) e ∙ take-nil (count_of places rows p));
+  within = λ p. let zero_is : count_of places rows p ≡ 0 = ap (λ o. count_in (row_at rows o)) (none p) in omega (arith, zero_is);
   some = (0, e);
+  lengths = ap (map row_count) f;
+  there = λ p n is. let nothing = none p in absurd (cc);
+  known = λ p ne. absurd (ne refl);
 }
 
 pub no_order : (order : List CommandId) → order ≡ [] → IsOrder [] order
@@ -60,7 +61,7 @@ no_order order e = record {
 
 pub no_table : (replies : Replies) (ids : List CommandId) → IsEmpty replies → ids ≡ [] → AreReplies [] replies ids
 no_table replies ids e f = record {
-  first = λ id small. no_entry replies (identity_key id) e;
+  first = λ id small. ap (option_map (λ (r : FirstReply). r.answer)) (no_entry replies (identity_key id) e);
   order = f;
   small = λ n id there. absurd (cc);
 }
@@ -73,8 +74,9 @@ no_executions order executions e f = record {
       let none : get nat_cmp executions (identity_key id) ≡ None = no_entry executions (identity_key id) f in absurd (cc);
 }
 
-pub none_settled : (ids : List CommandId) (executions : Executions) → AreSettled ids executions 0
-none_settled ids executions = record { within = omega arith; each = λ n id less there. absurd (omega arith) }
+pub none_settled : (ids : List CommandId) (executions : Executions) → AreSettled ids executions 0 0
+none_settled ids executions =
+    record { within = omega arith; each = λ n id less there. absurd (omega arith); some = inl (refl, refl) }
 
 pub no_floors : (floors : BTreeMap ℕ ℕ) → IsEmpty floors → AreFloors [] floors
 no_floors floors e = record {

@@ -1,19 +1,22 @@
 -- The floor of a reader is the lowest number of commands that the reader may have seen.
-use Rattle.std.proofs.Common.{◌≡◌, ◌≢◌, ◌⊎◌, ℕ, zero, suc, ◌<◌, ◌≤◌, ◌==◌, Bool, true, false, List, [], ◌∷◌, Option, Some, get_or, is_some, length, slice_get, take, arith, refl, sym, subst, ap, ◌∙◌, ⊎_elim}
+use Rattle.std.proofs.Common.{◌≡◌, ◌≢◌, ◌⊎◌, ℕ, zero, suc, ◌<◌, ◌≤◌, ◌==◌, Bool, true, false, List, [], ◌∷◌, Option, Some, is_some, length, slice_get, take, arith, refl, sym, subst, ap, ◌∙◌, ⊎_elim}
 use Rattle.std.specs.Prelude.{MatchBool, max, unwrap_or}
 use Rattle.std.specs.Ordering.{nat_cmp}
-use Rattle.std.specs.BTreeMap.{BTreeMap, Updates, is_at}
-use Rattle.std.proofs.lemmas.Bool.{cases_Bool, cases_eq, eq-eqb, eqb-true}
+use Rattle.std.specs.BTreeMap.{BTreeMap, Updates}
+use Rattle.std.proofs.lemmas.Bool.{cases_eq, eq-eqb, eqb-true}
 use Rattle.std.proofs.lemmas.List.{length-take}
 use Rattle.mencius_base.specs.declared.command.Command.{Command}
 use Rattle.mencius_base.specs.declared.command.CommandId.{CommandId}
 use Rattle.mencius_model.specs.KeyMap.{value_at}
-use Rattle.mencius_judge.specs.declared.observation.Observation.TheVariants.{Submit, Execute, Reply, Lookup, Tell}
+use Rattle.mencius_judge.specs.declared.observation.Observation.TheVariants.{Lookup, Tell}
 use Rattle.mencius_judge.specs.Log.{Log, MaySee, command_of, commands_of, history}
 use Rattle.mencius_judge.specs.Promises.{AreRightLookups}
+use Rattle.mencius_judge.specs.Rows.{Places, count_of}
+use Rattle.mencius_judge.specs.declared.histories.Row.{Row}
 use Rattle.mencius_judge.specs.Tables.{AreFloors, AreHistories, IsOrder, floor_of}
 use Rattle.mencius_judge.specs.Timelines.{HasNone, IsFirstCount, held_by}
 use Rattle.mencius_judge.specs.Violations.{IsNowhere}
+use Rattle.mencius_judge.proofs.promises.Identities.{get_other}
 use Rattle.mencius_judge.proofs.promises.Logs.{commands-cons_known, known}
 
 -- ---- prefixes of the longest history
@@ -52,10 +55,7 @@ floor_here floors new r n h = ap (λ o. unwrap_or o 0) h.1
 
 floor_there : (floors new : BTreeMap ℕ ℕ) (r n q : ℕ) → Updates nat_cmp floors new r (Some n) → r ≢ q
     → floor_of new q ≡ floor_of floors q
-floor_there floors new r n q h ne = ap (λ o. unwrap_or o 0) (h.2 q (⊎_elim
-    (λ (e : is_at (nat_cmp r) q ≡ true). absurd (ne (grind arith)))
-    (λ (e : is_at (nat_cmp r) q ≡ false). e)
-    (cases_Bool (is_at (nat_cmp r) q))))
+floor_there floors new r n q h ne = ap (λ o. unwrap_or o 0) (get_other floors new r q (Some n) h ne)
 
 differ : (r q : ℕ) → r ≢ q → (r == q) ≡ false
 differ r q ne = by_test (r == q) refl
@@ -79,17 +79,6 @@ picked P Q false e h = absurd (cc)
 passed : (P Q : Type 0) (d : Bool) → d ≡ false → MatchBool d P Q → Q
 passed P Q true e h = absurd (cc)
 passed P Q false e h = h
-
-pub floors_submit : (w : Log) (c : Command) (floors : BTreeMap ℕ ℕ) → AreFloors w floors → AreFloors (Submit c ∷ w) floors
-floors_submit w c floors h = record { seen = h.seen; least = h.least }
-
-pub floors_execute : (w : Log) (p : ℕ) (x : CommandId) (floors : BTreeMap ℕ ℕ) → AreFloors w floors
-    → AreFloors (Execute p x ∷ w) floors
-floors_execute w p x floors h = record { seen = h.seen; least = h.least }
-
-pub floors_reply : (w : Log) (x : CommandId) (text : Option (List ℕ)) (floors : BTreeMap ℕ ℕ) → AreFloors w floors
-    → AreFloors (Reply x text ∷ w) floors
-floors_reply w x text floors h = record { seen = h.seen; least = h.least }
 
 max_more : (a b n : ℕ) → a ≤ b → max a n ≤ max b n
 max_more a b n h = omega arith
@@ -119,14 +108,14 @@ floors_tell w r server floors new n h is updates = record {
       (cases_eq r q);
 }
 
-module _ (w : Log) (order : List CommandId) (counts : List ℕ) (commands : List Command) (histories : AreHistories w order counts)
-    (facts : IsOrder w order) (listed : commands ≡ commands_of w order) where
+module _ (w : Log) (order : List CommandId) (places : Places) (rows : List Row) (commands : List Command)
+    (histories : AreHistories w order places rows) (facts : IsOrder w order) (listed : commands ≡ commands_of w order) where
   -- the commands of a prefix of a history are a prefix of the longest history's commands
   view : (p n : ℕ) → n ≤ length (history w p) → commands_of w (take n (history w p)) ≡ take n commands
   view p n le =
-      let size : length (history w p) ≤ get_or counts p 0 =
-      (let s = ap length (histories.each p) in omega (arith, s, length-take (get_or counts p 0) order)) in
-      ap (commands_of w) (ap (take n) (histories.each p) ∙ take-less n (get_or counts p 0) order (omega (arith, le, size)))
+      let size : length (history w p) ≤ count_of places rows p =
+      (let s = ap length (histories.each p) in omega (arith, s, length-take (count_of places rows p) order)) in
+      ap (commands_of w) (ap (take n) (histories.each p) ∙ take-less n (count_of places rows p) order (omega (arith, le, size)))
       ∙ commands-take w order n facts.known ∙ ap (take n) (sym listed)
 
   long : length commands ≡ length order
@@ -135,7 +124,7 @@ module _ (w : Log) (order : List CommandId) (counts : List ℕ) (commands : List
   within : (p n : ℕ) → n ≤ length (history w p) → n ≤ length commands
   within p n le =
       let s = ap length (histories.each p) in
-      omega (arith, s, le, long, length-take (get_or counts p 0) order)
+      omega (arith, s, le, long, length-take (count_of places rows p) order)
 
   pub floors_lookup : (r : ℕ) (key : List ℕ) (text : Option (List ℕ)) (floors new : BTreeMap ℕ ℕ) (n : ℕ)
       → AreFloors w floors → IsFirstCount (held_by commands key) text (floor_of floors r) (length order) n → Updates nat_cmp floors new r (Some n)

@@ -5,8 +5,9 @@ use Rattle.std.specs.List.{Contains}
 use Rattle.mencius_base.specs.Command.{is_same_id}
 use Rattle.mencius_base.specs.declared.command.Command.{Command}
 use Rattle.mencius_base.specs.declared.command.CommandId.{CommandId}
-use Rattle.mencius_judge.specs.declared.observation.Observation.TheVariants.{Submit, Execute, Reply, Lookup, Tell}
-use Rattle.mencius_judge.specs.Log.{Log, command_of, commands_of, with_reply, with_reply_before, reply_of}
+use Rattle.mencius_judge.specs.declared.observation.Answer.{Answer}
+use Rattle.mencius_judge.specs.declared.observation.Observation.TheVariants.{Submit, Execute, Reply, Lookup, Tell, Settle, Restore}
+use Rattle.mencius_judge.specs.Log.{Log, acknowledged, acknowledged_before, command_of, commands_of, reply_of}
 use Rattle.mencius_judge.proofs.promises.Identities.{other_id, same_id, same_id_eq}
 
 -- ---- lists
@@ -48,12 +49,16 @@ command_found (Submit command ∷ w) id c e =
     by_cases before None was false is h = absurd (cc)
 command_found (Execute server x ∷ w) id c e =
     let r = command_found w id c e in (contains_later (Execute server x) w (Submit c) r.0, r.1)
-command_found (Reply x text ∷ w) id c e =
-    let r = command_found w id c e in (contains_later (Reply x text) w (Submit c) r.0, r.1)
+command_found (Reply x answer ∷ w) id c e =
+    let r = command_found w id c e in (contains_later (Reply x answer) w (Submit c) r.0, r.1)
 command_found (Lookup reader key text ∷ w) id c e =
     let r = command_found w id c e in (contains_later (Lookup reader key text) w (Submit c) r.0, r.1)
 command_found (Tell reader server ∷ w) id c e =
     let r = command_found w id c e in (contains_later (Tell reader server) w (Submit c) r.0, r.1)
+command_found (Settle server ∷ w) id c e =
+    let r = command_found w id c e in (contains_later (Settle server) w (Submit c) r.0, r.1)
+command_found (Restore server source count ∷ w) id c e =
+    let r = command_found w id c e in (contains_later (Restore server source count) w (Submit c) r.0, r.1)
 
 pub known : (o : Option Command) → is_some o ≡ true → (c : Command) × (o ≡ Some c)
 known None e = absurd (cc)
@@ -99,8 +104,8 @@ command_known (Submit x ∷ w) c h =
     last (Some y) = refl
 command_known (Execute server x ∷ w) c h =
     elim (contains_cons (Execute server x) w (Submit c) h) [ inl e ↦ absurd (cc) | inr later ↦ command_known w c later ]
-command_known (Reply x text ∷ w) c h =
-    elim (contains_cons (Reply x text) w (Submit c) h) [ inl e ↦ absurd (cc) | inr later ↦ command_known w c later ]
+command_known (Reply x answer ∷ w) c h =
+    elim (contains_cons (Reply x answer) w (Submit c) h) [ inl e ↦ absurd (cc) | inr later ↦ command_known w c later ]
 command_known (Lookup reader key text ∷ w) c h =
     elim (contains_cons (Lookup reader key text) w (Submit c) h) [
       | inl e ↦ absurd (cc)
@@ -108,14 +113,21 @@ command_known (Lookup reader key text ∷ w) c h =
     ]
 command_known (Tell reader server ∷ w) c h =
     elim (contains_cons (Tell reader server) w (Submit c) h) [ inl e ↦ absurd (cc) | inr later ↦ command_known w c later ]
+command_known (Settle server ∷ w) c h =
+    elim (contains_cons (Settle server) w (Submit c) h) [ inl e ↦ absurd (cc) | inr later ↦ command_known w c later ]
+command_known (Restore server source count ∷ w) c h =
+    elim (contains_cons (Restore server source count) w (Submit c) h) [
+      | inl e ↦ absurd (cc)
+      | inr later ↦ command_known w c later
+    ]
 
 pub kept_before : (w : Log) (c : Command) (id : CommandId) → is_some (command_of w id) ≡ true
-    → with_reply_before (Submit c ∷ w) id ≡ with_reply_before w id
-kept_before w c id e = ap (λ d. cond d (with_reply_before w id) (with_reply w)) e
+    → acknowledged_before (Submit c ∷ w) id ≡ acknowledged_before w id
+kept_before w c id e = ap (λ d. cond d (acknowledged_before w id) (acknowledged w)) e
 
 pub new_before : (w : Log) (c : Command) (id : CommandId) → command_of w id ≡ None
-    → with_reply_before (Submit c ∷ w) id ≡ with_reply w
-new_before w c id e = ap (λ o. cond (is_some o) (with_reply_before w id) (with_reply w)) e
+    → acknowledged_before (Submit c ∷ w) id ≡ acknowledged w
+new_before w c id e = ap (λ o. cond (is_some o) (acknowledged_before w id) (acknowledged w)) e
 
 -- ---- the commands of identities
 
@@ -162,50 +174,53 @@ commands-append w (x ∷ ids) id c e =
 
 -- ---- replies
 
-pub reply_found : (w : Log) (id : CommandId) (x : Option (List ℕ)) → reply_of w id ≡ Some x → Contains w (Reply id x)
+pub reply_found : (w : Log) (id : CommandId) (x : Answer) → reply_of w id ≡ Some x → Contains w (Reply id x)
 reply_found [] id x e = absurd (cc)
 reply_found (Submit command ∷ w) id x e = contains_later (Submit command) w (Reply id x) (reply_found w id x e)
 reply_found (Execute server y ∷ w) id x e = contains_later (Execute server y) w (Reply id x) (reply_found w id x e)
-reply_found (Reply y text ∷ w) id x e =
+reply_found (Reply y answer ∷ w) id x e =
     by_cases (λ h. reply_found w id x h) (reply_of w id) refl (is_same_id y id) refl e
   where
-    by_cases : (reply_of w id ≡ Some x → Contains w (Reply id x)) → (o : Option (Option (List ℕ))) → reply_of w id ≡ o → (d : Bool) → is_same_id y id ≡ d
-        → option_or o (cond d (Some text) None) ≡ Some x → Contains (Reply y text ∷ w) (Reply id x)
-    by_cases before (Some z) was d is h = contains_later (Reply y text) w (Reply id x) (before (was ∙ h))
+    by_cases : (reply_of w id ≡ Some x → Contains w (Reply id x)) → (o : Option Answer) → reply_of w id ≡ o → (d : Bool) → is_same_id y id ≡ d
+        → option_or o (cond d (Some answer) None) ≡ Some x → Contains (Reply y answer ∷ w) (Reply id x)
+    by_cases before (Some z) was d is h = contains_later (Reply y answer) w (Reply id x) (before (was ∙ h))
     by_cases before None was true is h =
         let ids : y ≡ id = same_id_eq y id is in
-        let texts : text ≡ x = cc in
-        contains_here (Reply y text) w (Reply id x) (cc (ids, texts))
+        let answers : answer ≡ x = cc in
+        contains_here (Reply y answer) w (Reply id x) (cc (ids, answers))
     by_cases before None was false is h = absurd (cc)
 reply_found (Lookup reader key text ∷ w) id x e =
     contains_later (Lookup reader key text) w (Reply id x) (reply_found w id x e)
 reply_found (Tell reader server ∷ w) id x e =
     contains_later (Tell reader server) w (Reply id x) (reply_found w id x e)
+reply_found (Settle server ∷ w) id x e = contains_later (Settle server) w (Reply id x) (reply_found w id x e)
+reply_found (Restore server source count ∷ w) id x e =
+    contains_later (Restore server source count) w (Reply id x) (reply_found w id x e)
 
 -- if the log contains a reply to a command, the command has a first reply
-pub reply_missing : (w : Log) (id : CommandId) (x : Option (List ℕ)) → Contains w (Reply id x)
+pub reply_missing : (w : Log) (id : CommandId) (x : Answer) → Contains w (Reply id x)
     → is_some (reply_of w id) ≡ true
 reply_missing [] id x h = absurd (contains_none (Reply id x) h)
 reply_missing (Submit command ∷ w) id x h =
     elim (contains_cons (Submit command) w (Reply id x) h) [ inl e ↦ absurd (cc) | inr later ↦ reply_missing w id x later ]
 reply_missing (Execute server y ∷ w) id x h =
     elim (contains_cons (Execute server y) w (Reply id x) h) [ inl e ↦ absurd (cc) | inr later ↦ reply_missing w id x later ]
-reply_missing (Reply y text ∷ w) id x h =
-    elim (contains_cons (Reply y text) w (Reply id x) h) [
+reply_missing (Reply y answer ∷ w) id x h =
+    elim (contains_cons (Reply y answer) w (Reply id x) h) [
       | inl e ↦
           let ids : y ≡ id = cc in
           last (reply_of w id) (is_same_id y id) (subst (λ (z : CommandId). is_same_id y z ≡ true) ids (same_id y))
       | inr later ↦ first (reply_of w id) (reply_missing w id x later)
     ]
   where
-    last : (o : Option (Option (List ℕ))) (d : Bool) → d ≡ true → is_some (option_or o (cond d (Some text) None))
+    last : (o : Option Answer) (d : Bool) → d ≡ true → is_some (option_or o (cond d (Some answer) None))
         ≡ true
     last None true e = refl
     last None false e = absurd (cc)
     last (Some z) d e = refl
 
-    first : (o : Option (Option (List ℕ))) → is_some o ≡ true
-        → is_some (option_or o (cond (is_same_id y id) (Some text) None)) ≡ true
+    first : (o : Option Answer) → is_some o ≡ true
+        → is_some (option_or o (cond (is_same_id y id) (Some answer) None)) ≡ true
     first None e = absurd (cc)
     first (Some z) e = refl
 reply_missing (Lookup reader key text ∷ w) id x h =
@@ -215,6 +230,13 @@ reply_missing (Lookup reader key text ∷ w) id x h =
     ]
 reply_missing (Tell reader server ∷ w) id x h =
     elim (contains_cons (Tell reader server) w (Reply id x) h) [
+      | inl e ↦ absurd (cc)
+      | inr later ↦ reply_missing w id x later
+    ]
+reply_missing (Settle server ∷ w) id x h =
+    elim (contains_cons (Settle server) w (Reply id x) h) [ inl e ↦ absurd (cc) | inr later ↦ reply_missing w id x later ]
+reply_missing (Restore server source count ∷ w) id x h =
+    elim (contains_cons (Restore server source count) w (Reply id x) h) [
       | inl e ↦ absurd (cc)
       | inr later ↦ reply_missing w id x later
     ]

@@ -6,14 +6,15 @@ use Rattle.mencius_model.specs.Executed.{IsComparable, IsPrefix}
 use Rattle.mencius_model.proofs.trace.Prefixes.{prefix_self, prefix_trans}
 use Rattle.mencius_judge.specs.Laws.{ComparableAtAnyMoments, KeptAtEachMoment, LaterCommandsStandBehind}
 use Rattle.mencius_judge.specs.Log.{Log, command_of, history}
-use Rattle.mencius_judge.proofs.promises.Kept.{all_known, comparable_earlier, history_grows, kept_before_all}
+use Rattle.mencius_judge.specs.Promises.{WereRestored}
+use Rattle.mencius_judge.proofs.promises.Kept.{all_known, comparable_earlier, history_grows, kept_before_all, restored_earlier}
 
 -- a history is a prefix of each later one
-pub history_later : (later w : Log) (p : ℕ) → IsPrefix (history w p) (history (later ++ w) p)
-history_later [] w p = prefix_self (history w p)
-history_later (o ∷ later) w p =
-    prefix_trans (history w p) (history (later ++ w) p) (history (o ∷ (later ++ w)) p) (history_later later w p)
-    (history_grows (later ++ w) o p)
+pub history_later : (later w : Log) → WereRestored (later ++ w) → (p : ℕ) → IsPrefix (history w p) (history (later ++ w) p)
+history_later [] w h p = prefix_self (history w p)
+history_later (o ∷ later) w h p =
+    prefix_trans (history w p) (history (later ++ w) p) (history (o ∷ (later ++ w)) p)
+    (history_later later w (restored_earlier (later ++ w) o h) p) (history_grows (later ++ w) o h p)
 
 pub moments_kept : KeptAtEachMoment
 moments_kept later w h = kept_before_all later w h
@@ -21,8 +22,9 @@ moments_kept later w h = kept_before_all later w h
 pub moments_comparable : ComparableAtAnyMoments
 moments_comparable later other v w h same p q =
     comparable_earlier (history w p) (history v q) (history (later ++ w) p) (history (later ++ w) q)
-    (history_later later w p)
-    (subst (λ (u : Log). IsPrefix (history v q) (history u q)) (sym same) (history_later other v q))
+    (history_later later w h.restored p)
+    (subst (λ (u : Log). IsPrefix (history v q) (history u q)) (sym same)
+    (history_later other v (subst WereRestored same h.restored) q))
     (h.same_order p q)
 
 -- if a list is comparable to another one and lacks one of its items, the list is a prefix of the part before that item
@@ -49,7 +51,7 @@ later_behind later w h p q id front back none e =
     begins (history w p) front back id
     (subst (IsComparable (history w p)) e
     (comparable_earlier (history w p) (history (later ++ w) q) (history (later ++ w) p) (history (later ++ w) q)
-    (history_later later w p) (prefix_self (history (later ++ w) q)) (h.same_order p q)))
+    (history_later later w h.restored p) (prefix_self (history (later ++ w) q)) (h.same_order p q)))
     (λ n there.
     let was : is_some (command_of w id) ≡ true = all_known w p now.submitted n id there in
     absurd (cc))

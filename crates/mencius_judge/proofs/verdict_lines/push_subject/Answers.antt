@@ -17,3 +17,6 @@ returns-in_ok-push_str-in-RightLookup c =
     let named : string_bytes c.push_str.new.self ≡ old ++ name = c.in_ok-push_str-in-RightLookup.ensures.bytes in
     rw c.in-RightLookup.is (on_ok_weaker c.push_reader.result
     (λ h. h ∙ ap (λ xs. xs ++ reader) named ∙ append_assoc old name reader) c.push_reader.ensures)
+
+pub returns-in-Settled : goal.returns-in-Settled
+returns-in-Settled c = rw c.in-Settled.is c.write.ensures.bytes

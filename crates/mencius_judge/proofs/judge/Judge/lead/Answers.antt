@@ -1,148 +1,182 @@
-use Rattle.std.proofs.Common.{◌≡◌, ◌≢◌, ◌<◌, ◌≤◌, ◌+◌, ◌++◌, ◌∷◌, [], Some, None, ap, arith, inl, is_some, length, refl, slice_get, sym, subst, true, false, ◌∙◌, length-append}
-use Rattle.std.specs.List.{Contains}
+use Rattle.std.proofs.Common.{◌≡◌, ◌<◌, ◌≤◌, ◌+◌, ◌++◌, ◌∷◌, [], MatchOption, Some, None, ap, arith, is_some, length, refl, slice_get, sym, subst, true, false, ◌∙◌, length-append}
 use Rattle.std.specs.BTreeMap.{Updates, get}
 use Rattle.std.specs.Ordering.{nat_cmp}
 use Rattle.mencius_model.specs.KeyMap.{out}
-use Rattle.mencius_judge.specs.declared.observation.Observation.TheVariants.{Execute, Reply}
-use Rattle.mencius_judge.specs.Log.{command_of, commands_of, reply_of}
-use Rattle.mencius_judge.specs.Tables.{AreSettled, IsNoOther, identity_key, number_count}
-use Rattle.mencius_judge.specs.Violations.{IsAnswerAt}
-use Rattle.mencius_judge.proofs.promises.Broken.{wrong_reply}
-use Rattle.mencius_judge.proofs.promises.Floors.{commands-length, floors_execute}
-use Rattle.mencius_judge.proofs.observations.Leads.{copied_some, last, lead_answer, lead_early, lead_executions, lead_histories, lead_order, lead_timelines, lead_twice, size_is, some_is}
-use Rattle.mencius_judge.proofs.promises.Logs.{contains_later, reply_found}
-use Rattle.mencius_judge.proofs.observations.Steps.{not_submitted, one_execute, replies_execute, row_found, row_missing, settled_lead, submissions_execute, table_execute}
+use Rattle.mencius_judge.specs.declared.judge.Execution.{Execution}
+use Rattle.mencius_judge.specs.declared.judge.FirstReply.{FirstReply}
+use Rattle.mencius_judge.specs.declared.observation.Observation.{Observation}
+use Rattle.mencius_judge.specs.declared.observation.Observation.TheVariants.{Execute}
+use Rattle.mencius_judge.specs.declared.violation.Violation.TheVariants.{RightReply}
+use Rattle.mencius_judge.specs.Answers.{IsRight}
+use Rattle.mencius_judge.specs.Judged.{Breaks}
+use Rattle.mencius_judge.specs.Log.{commands_of}
+use Rattle.mencius_judge.specs.Quotes.{log_of}
+use Rattle.mencius_judge.specs.Tables.{AreSettled, IsNoWrong, identity_key, number_count}
+use Rattle.mencius_judge.proofs.acknowledged.SettleLines.{seen_settled}
+use Rattle.mencius_judge.proofs.observations.HistorySteps.{size_is}
+use Rattle.mencius_judge.proofs.observations.Leads.{copied_some, last, lead_early, lead_executions, lead_histories, lead_order, lead_timelines, lead_twice, lead_wrong, none_is, some_is}
+use Rattle.mencius_judge.proofs.observations.Quiet.{floors_same, one_quiet, replies_quiet, submissions_quiet, table_quiet}
+use Rattle.mencius_judge.proofs.observations.Steps.{row_found, settled_lead}
+use Rattle.mencius_judge.proofs.promises.Floors.{commands-length}
+use Rattle.mencius_judge.proofs.sources.After.{sources_after_lead}
 use Rattle.mencius_judge.proofs.judge.Judge.lead.Goals as goal
 
-pub returns-in_default : goal.returns-in_default
-returns-in_default c w h ahead =
+pub returns-then-is_some : goal.returns-then-is_some
+returns-then-is_some c n seen ahead =
     let j = c.args.self.now in
+    let h = seen.log in
+    let w = log_of n in
     let p = c.args.server in
     let id = c.args.id in
     let small : id.number < number_count = omega arith in
-    let none : command_of w id ≡ None =
-    row_missing w j.submissions h.submissions id small
-    (ap (get nat_cmp j.submissions) (sym c.identity_key-key.ensures) ∙ sym c.in_default.ensures.value) in
-    ((inl (p, refl), none), not_submitted w p id none)
-
-pub returns-then-is_some : goal.returns-then-is_some
-returns-then-is_some c w h ahead =
-    let j = c.args.self.now in
-    let p = c.args.server in
-    let small : c.args.id.number < number_count = omega arith in
-    let known : p < length j.histories.counts.items = omega (arith, j.histories.all) in
-    let there : get nat_cmp j.submissions (identity_key c.args.id) ≡ Some c.in-Some.row.now =
+    let there : get nat_cmp j.submissions (identity_key id) ≡ Some c.in-Some.row.now =
     ap (get nat_cmp j.submissions) (sym c.identity_key-key.ensures) ∙ sym c.in-Some.ensures.value in
-    let had : is_some (get nat_cmp j.executions (identity_key c.args.id)) ≡ true =
+    let had : is_some (get nat_cmp j.executions (identity_key id)) ≡ true =
     ap (λ key. is_some (get nat_cmp j.executions key)) (sym c.identity_key-key.ensures)
     ∙ ap is_some (sym c.get-2.ensures.value) ∙ copied_some c.get-2.result ∙ sym c.is_some.ensures ∙ c.if-is_some.true in
-    let r = lead_twice j w h p c.args.id c.in-Some.row.now small there known ahead had in
-    ((refl, c.count-place.ensures ∙ sym (size_is j w p h), r.0), r.1)
+    let r = lead_twice j w h p id c.in-Some.row.now small there ahead had in
+    let size = size_is w j.histories.order.items j.histories.places j.histories.rows.items h.histories p in
+    (((refl, c.count-place.ensures ∙ size, r.0), r.1), seen)
 
 pub returns-in-Some-first_unsettled : goal.returns-in-Some-first_unsettled
-returns-in-Some-first_unsettled c w h ahead =
+returns-in-Some-first_unsettled c n seen ahead =
     let j = c.args.self.now in
+    let h = seen.log in
+    let w = log_of n in
     let p = c.args.server in
     let id = c.args.id in
     let behind = c.in-Some-first_unsettled.behind in
     let small : id.number < number_count = omega arith in
-    let known : p < length j.histories.counts.items = omega (arith, j.histories.all) in
     let there : get nat_cmp j.submissions (identity_key id) ≡ Some c.in-Some.row.now =
     ap (get nat_cmp j.submissions) (sym c.identity_key-key.ensures) ∙ sym c.in-Some.ensures.value in
     let settled = c.count_settled-self.result in
-    let less : settled < c.in-Some.row.now.replies_before = c.in-Some-first_unsettled.ensures.0 in
-    let listed : slice_get j.with_reply.items settled ≡ Some behind =
-    ap (λ ids. slice_get ids settled) (sym c.as_slice-with_reply.ensures.value) ∙ c.in-Some-first_unsettled.ensures.1 in
+    let less : settled.count < c.in-Some.row.now.acknowledged = c.in-Some-first_unsettled.ensures.0 in
+    let listed : slice_get j.acknowledged.items settled.count ≡ Some behind =
+    ap (λ ids. slice_get ids settled.count) (sym c.as_slice-acknowledged.ensures.value) ∙ c.in-Some-first_unsettled.ensures.1 in
     let none : get nat_cmp j.executions (identity_key behind) ≡ None =
-    c.count_settled-self.ensures.all behind (ap (λ ids. slice_get ids settled) c.as_slice-with_reply.ensures.value ∙ listed) in
-    let r = lead_early j w h p id c.in-Some.row.now small there known ahead settled behind less listed none in
-    ((refl, c.count-place.ensures ∙ sym (size_is j w p h), r.0, r.1), r.2)
+    c.count_settled-self.ensures.all behind (ap (λ ids. slice_get ids settled.count) c.as_slice-acknowledged.ensures.value ∙ listed) in
+    let facts : AreSettled j.acknowledged.items j.executions settled.count settled.highest =
+    subst (λ ids. AreSettled ids j.executions j.settled.count j.settled.highest
+    → AreSettled ids j.executions settled.count settled.highest)
+    c.as_slice-acknowledged.ensures.value c.count_settled-self.ensures.settled h.settled in
+    let r = lead_early j w h p id c.in-Some.row.now small there ahead settled.count behind less listed none in
+    let size = size_is w j.histories.order.items j.histories.places j.histories.rows.items h.histories p in
+    (((refl, c.count-place.ensures ∙ size, r.0, r.1), r.2), seen_settled j n settled seen facts)
 
-pub returns-in-Some-other_text : goal.returns-in-Some-other_text
-returns-in-Some-other_text c w h ahead =
+pub returns-in-Some-2 : goal.returns-in-Some-2
+returns-in-Some-2 c n seen ahead =
     let j = c.args.self.now in
+    let h = seen.log in
+    let w = log_of n in
     let p = c.args.server in
     let id = c.args.id in
     let row = c.in-Some.row.now in
-    let order = j.histories.order.items in
+    let cs = commands_of w j.histories.order.items in
+    let key = c.identity_key-key.result in
+    let place = c.count-place.result in
     let small : id.number < number_count = omega arith in
-    let known : p < length j.histories.counts.items = omega (arith, j.histories.all) in
     let there : get nat_cmp j.submissions (identity_key id) ≡ Some row =
     ap (get nat_cmp j.submissions) (sym c.identity_key-key.ensures) ∙ sym c.in-Some.ensures.value in
-    let is : c.in_ok-reply.reply ≡ out (commands_of w order) row.command =
-    c.in_ok-reply.ensures.reply (commands_of w order) h.timelines in
-    let place : length order ≡ c.count-place.result =
-    sym (c.count-place.ensures ∙ last j w h p id row small there known ahead) in
-    let own : IsAnswerAt (Execute p id ∷ w) id c.count-place.result c.in_ok-reply.reply =
-    subst (λ n. IsAnswerAt (Execute p id ∷ w) id n c.in_ok-reply.reply) place
-    (lead_answer j w h p id row small there known ahead c.in_ok-reply.reply is) in
-    let first : reply_of w id ≡ Some c.in-Some-other_text.found.now =
-    sym (h.replies.first id small) ∙ ap (get nat_cmp j.replies) (sym c.identity_key-key.ensures) ∙ c.in-Some-other_text.ensures.0 in
-    let here : Contains (Execute p id ∷ w) (Reply id c.in_ok-found.found) =
-    contains_later (Execute p id) w (Reply id c.in_ok-found.found)
-    (reply_found w id c.in_ok-found.found (first ∙ ap Some (sym c.in_ok-found.ensures))) in
-    let other : c.in_ok-reply.reply ≢ c.in_ok-found.found =
-    λ e. c.in-Some-other_text.ensures.1 (sym c.in_ok-found.ensures ∙ sym e) in
-    ((here, own, other), wrong_reply (Execute p id ∷ w) id c.count-place.result c.in_ok-reply.reply c.in_ok-found.found own here other)
+    let settled = c.count_settled-self.result in
+    let facts : AreSettled j.acknowledged.items j.executions settled.count settled.highest =
+    subst (λ ids. AreSettled ids j.executions j.settled.count j.settled.highest
+    → AreSettled ids j.executions settled.count settled.highest)
+    c.as_slice-acknowledged.ensures.value c.count_settled-self.ensures.settled h.settled in
+    let wrong =
+    subst (λ x. MatchOption x (IsNoWrong j.replies key row.command.op (out cs row.command))
+    (λ v. (first : FirstReply) × (get nat_cmp j.replies key ≡ Some first)
+    × (v ≡ RightReply row.command.id place (out cs row.command) first.answer)
+    × (IsRight row.command.op (out cs row.command) first.answer → ⊥)))
+    c.in-Some-2.is (c.in_ok-violation.ensures cs h.timelines) in (
+      subst (Breaks w (Execute p id)) (sym wrong.2)
+          (lead_wrong j w h p id row small there ahead place (c.count-place.ensures ∙ last j w h p id row small there ahead) wrong.0
+          (ap (get nat_cmp j.replies) (sym c.identity_key-key.ensures) ∙ wrong.1) wrong.3),
+      seen_settled j n settled seen facts,
+    )
 
 pub returns : goal.returns
-returns c w h ahead =
+returns c n seen ahead =
     let j = c.args.self.now in
+    let h = seen.log in
+    let w = log_of n in
     let p = c.args.server in
     let id = c.args.id in
     let row = c.in-Some.row.now in
-    let reply = c.in_ok-reply.reply in
     let order = j.histories.order.items in
+    let leads = j.histories.leads.items in
+    let places = j.histories.places in
+    let rows = j.histories.rows.items in
+    let cs = commands_of w order in
+    let held = c.in_ok-held.held in
+    let key = c.identity_key-key.result in
     let settled = c.count_settled-self.result in
+    let new = c.lead.new.self in
+    let o : Observation = Execute p id in
     let small : id.number < number_count = omega arith in
-    let known : p < length j.histories.counts.items = omega (arith, j.histories.all) in
     let there : get nat_cmp j.submissions (identity_key id) ≡ Some row =
     ap (get nat_cmp j.submissions) (sym c.identity_key-key.ensures) ∙ sym c.in-Some.ensures.value in
     let absent : is_some (get nat_cmp j.executions (identity_key id)) ≡ false =
-    ap (λ key. is_some (get nat_cmp j.executions key)) (sym c.identity_key-key.ensures)
+    ap (λ k. is_some (get nat_cmp j.executions k)) (sym c.identity_key-key.ensures)
     ∙ ap is_some (sym c.get-2.ensures.value) ∙ copied_some c.get-2.result ∙ sym c.is_some.ensures ∙ c.if-is_some.false in
-    let is : reply ≡ out (commands_of w order) row.command =
-    c.in_ok-reply.ensures.reply (commands_of w order) h.timelines in
-    let none : IsNoOther j.replies (identity_key id) reply =
-    subst (λ key. IsNoOther j.replies key reply) c.identity_key-key.ensures c.in_default-other_text.ensures in
-    let facts : AreSettled j.with_reply.items j.executions settled =
-    subst (λ ids. AreSettled ids j.executions j.settled_count → AreSettled ids j.executions settled)
-    c.as_slice-with_reply.ensures.value c.count_settled-self.ensures.settled h.settled in
-    let behind : settled < row.replies_before → length j.with_reply.items ≤ settled =
-    subst (λ ids. settled < row.replies_before → length ids ≤ settled) c.as_slice-with_reply.ensures.value c.in_default-first_unsettled.ensures in
-    let updates : Updates nat_cmp j.executions c.put.new.map (identity_key id) (Some (record { place = c.count-place.result; reply = reply })) =
-    subst (λ key. Updates nat_cmp j.executions c.put.new.map key (Some (record { place = c.count-place.result; reply = reply })))
-    c.identity_key-key.ensures c.in_ok-put.ensures in
-    let place : c.count-place.result ≡ length order =
-    c.count-place.ensures ∙ last j w h p id row small there known ahead in
-    let grown : c.lead.new.self.order.items ≡ order ++ id ∷ [] = c.in_ok-lead.ensures.order in
-    let size : length (commands_of w order) + 1 ≡ c.longest-size.result =
+    let is : held ≡ out cs row.command = c.in_ok-held.ensures.reply cs h.timelines in
+    let right : IsNoWrong j.replies key row.command.op (out cs row.command) =
+    subst (λ x. MatchOption x (IsNoWrong j.replies key row.command.op (out cs row.command))
+    (λ v. (first : FirstReply) × (get nat_cmp j.replies key ≡ Some first)
+    × (v ≡ RightReply row.command.id c.count-place.result (out cs row.command) first.answer)
+    × (IsRight row.command.op (out cs row.command) first.answer → ⊥)))
+    c.in_default-2.is (c.in_ok-violation.ensures cs h.timelines) in
+    let none : IsNoWrong j.replies (identity_key id) row.command.op held =
+    subst (λ k. IsNoWrong j.replies k row.command.op held) c.identity_key-key.ensures
+    (subst (IsNoWrong j.replies key row.command.op) (sym is) right) in
+    let facts : AreSettled j.acknowledged.items j.executions settled.count settled.highest =
+    subst (λ ids. AreSettled ids j.executions j.settled.count j.settled.highest
+    → AreSettled ids j.executions settled.count settled.highest)
+    c.as_slice-acknowledged.ensures.value c.count_settled-self.ensures.settled h.settled in
+    let behind : settled.count < row.acknowledged → length j.acknowledged.items ≤ settled.count =
+    subst (λ ids. settled.count < row.acknowledged → length ids ≤ settled.count) c.as_slice-acknowledged.ensures.value
+    c.in_default-first_unsettled.ensures in
+    let execution : Execution = record { place = c.count-place.result; held = held } in
+    let updates : Updates nat_cmp j.executions c.put.new.map (identity_key id) (Some execution) =
+    subst (λ k. Updates nat_cmp j.executions c.put.new.map k (Some execution)) c.identity_key-key.ensures c.in_ok-put.ensures in
+    let place : c.count-place.result ≡ length order = c.count-place.ensures ∙ last j w h p id row small there ahead in
+    let grown : new.order.items ≡ order ++ id ∷ [] = c.in_ok-lead.ensures.order in
+    let size : length cs + 1 ≡ c.longest-size.result =
     omega (arith, commands-length w order h.order.known, ap length grown, length-append order (id ∷ []), c.longest-size.ensures) in
     record {
-      one_command = one_execute w p id h.one_command;
-      were_submitted =
-          (some_is _ row.command (row_found w j.submissions h.submissions id row small there), h.were_submitted);
-      one_reply = replies_execute w p id h.one_reply;
-      submissions = submissions_execute w j.submissions h.submissions p id;
-      histories =
-          rw (c.in_ok-lead.ensures.order, c.in_ok-lead.ensures.counts)
-          (lead_histories j w h p id row small there known ahead reply is absent none settled facts behind);
-      order =
-          rw c.in_ok-lead.ensures.order
-          (lead_order j w h p id row small there known ahead reply is absent none settled facts behind);
-      replies = table_execute w p id j.replies j.with_reply.items h.replies;
-      executions =
-          rw c.in_ok-lead.ensures.order
-          (lead_executions j w h p id row small there known ahead reply is absent none settled facts behind
-          c.put.new.map (record { place = c.count-place.result; reply = reply }) refl place updates);
-      settled =
-          settled_lead j.with_reply.items j.executions c.put.new.map settled id
-          (record { place = c.count-place.result; reply = reply }) facts updates;
-      timelines =
-          rw c.in_ok-lead.ensures.order
-          (lead_timelines j w h p id row small there known ahead c.execute.new.self.by_key
-          (c.in_ok-reply.ensures.after (commands_of w order) h.timelines size));
-      floors = floors_execute w p id j.floors h.floors;
-      commands = h.commands;
-      lookups = h.lookups;
+      log = record {
+        one_command = one_quiet w o tt h.one_command;
+        were_submitted =
+            (some_is _ row.command (row_found w j.submissions h.submissions id row small there), h.were_submitted);
+        one_reply = replies_quiet w o tt h.one_reply;
+        were_settled = h.were_settled;
+        were_restored = h.were_restored;
+        submissions = submissions_quiet w o tt j.submissions h.submissions;
+        histories =
+            rw c.in_ok-lead.ensures.order
+            (lead_histories j w h p id row small there ahead c.args.line new.places new.rows.items
+            c.in_ok-lead.ensures.rows);
+        order =
+            rw c.in_ok-lead.ensures.order
+            (lead_order j w h p id row small there ahead held is absent none settled.count settled.highest facts behind);
+        replies = table_quiet w o tt j.replies j.acknowledged.items h.replies;
+        executions =
+            rw c.in_ok-lead.ensures.order
+            (lead_executions j w h p id row small there ahead held is absent none settled.count settled.highest facts behind
+            c.put.new.map execution refl place updates);
+        settled =
+            settled_lead j.acknowledged.items j.executions c.put.new.map settled.count settled.highest id execution facts
+            (none_is (get nat_cmp j.executions (identity_key id)) absent) updates;
+        timelines =
+            rw c.in_ok-lead.ensures.order
+            (lead_timelines j w h p id row small there ahead c.execute.new.self.by_key
+            (c.in_ok-held.ensures.after cs h.timelines size));
+        floors = floors_same w o tt j.floors h.floors;
+        commands = h.commands;
+        replied = h.replied;
+        lookups = h.lookups;
+      };
+      sources =
+          rw (c.in_ok-lead.ensures.order, c.in_ok-lead.ensures.leads)
+          (sources_after_lead n order leads places rows j.submissions j.replies seen.sources h.histories
+          c.args.line p id new.places new.rows.items ahead c.in_ok-lead.ensures.rows);
     }

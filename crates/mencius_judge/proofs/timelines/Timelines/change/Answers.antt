@@ -23,9 +23,10 @@ returns-clause-own c =
     ] in
     on_ok c.put_text.result (λ (is : get_by_text c.put_text.new.map key ≡ Some new).
     (λ (held after : ℕ → Option (List ℕ)) (n : ℕ) (h : IsTimelineOf held n (get_by_text c.args.self.now.by_key key))
-    (e : n + 1 ≡ c.args.count) (kept : (m : ℕ) → m ≤ n → after m ≡ held m) (last : after c.args.count ≡ c.args.text).
+    (e : n + 1 ≡ c.args.count) (kept : (m : ℕ) → m ≤ n → after m ≡ held m) (last : after c.args.count ≡ c.args.text)
+    (changes : after c.args.count ≢ held n).
     subst (IsTimelineOf after c.args.count) (sym is)
-    (changed_at held after n c.args.count t new e (before held n h) kept c.args.text last c.in_ok-change.ensures.text
+    (changed_at held after n c.args.count t new e (before held n h) kept c.args.text last changes c.in_ok-change.ensures.text
     c.in_ok-change.ensures.since c.in_ok-change.ensures.former c.in_ok-change.ensures.others)))
     c.put_text.ensures.own
 

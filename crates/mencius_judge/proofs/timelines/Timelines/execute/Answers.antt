@@ -1,4 +1,4 @@
-use Rattle.std.proofs.Common.{◌≡◌, ◌∷◌, [], ◌++◌, sym, subst, ap, ◌∙◌}
+use Rattle.std.proofs.Common.{◌≡◌, ◌∷◌, [], ◌++◌, Bool, true, false, sym, subst, ap, ◌∙◌}
 use Rattle.std.specs.BTreeMap.{get_by_text}
 use Rattle.mencius_base.specs.declared.command.Command.{Command}
 use Rattle.mencius_model.specs.KeyMap.{key_of}
@@ -6,6 +6,9 @@ use Rattle.mencius_judge.specs.Timelines.{AreTimelines, Becomes, text_of}
 use Rattle.mencius_judge.proofs.keys.Changes.{IsChange, answer_is, with_change, without_change}
 use Rattle.mencius_judge.proofs.timelines.Timelines.execute.Goals as goal
 use Rattle.mencius_judge.proofs.timelines.Timelines.execute.Goals.{then-not-is_same_text+in_ok-change, else-not-is_same_text}
+
+not_both : (b : Bool) → b ≡ false → b ≡ true → ⊥
+not_both b e f = cc
 
 pub returns : goal.returns
 returns c =
@@ -23,6 +26,7 @@ returns c =
         | then-not-is_same_text+in_ok-change w ↦
             subst (λ s. AreTimelines (cs ++ command ∷ []) s.by_key) (sym w.self-is)
             (with_change cs command by_key w.change.new.self.by_key held text h is becomes
+            (λ same. not_both c.is_same_text.result w.if-not-is_same_text.true (c.is_same_text.ensures.1 same))
             (subst (λ n. IsChange by_key w.change.new.self.by_key (key_of command.op) text n) (sym size)
             (subst (λ k. IsChange by_key w.change.new.self.by_key k text c.args.count) key
             (w.in_ok-change.ensures.own, w.in_ok-change.ensures.others))))

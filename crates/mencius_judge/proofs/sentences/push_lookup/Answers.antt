@@ -1,0 +1,12 @@
+use Rattle.std.proofs.Common.{◌≡◌, ◌++◌, ◌∙◌, ap, string_bytes}
+use Rattle.mencius_judge.proofs.GrownTexts.{with_piece}
+use Rattle.mencius_judge.proofs.sentences.push_lookup.Goals as goal
+
+pub returns : goal.returns
+returns c =
+    let key : string_bytes c.push_str-2.new.self ≡ string_bytes c.push_str.new.self ++ c.args.key.now =
+    c.in_ok-push_str-2.ensures.bytes ∙ ap (λ k. string_bytes c.push_str.new.self ++ k) c.as_str.ensures in
+    with_piece _ (string_bytes c.args.text.now) _ _ _ _ c.in_ok-write.ensures.bytes
+    (with_piece _ (string_bytes c.write.new.self) _ _ _ _ c.in_ok-push_str.ensures.bytes
+    (with_piece _ (string_bytes c.push_str.new.self) _ _ _ _ key
+    c.write-2.ensures.bytes))
