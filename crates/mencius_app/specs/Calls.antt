@@ -33,21 +33,21 @@ task_of asked_trace = trace_task
 task_of (asked_draw (Some options)) = draw_task options
 task_of (asked_draw None) = record { IsText = λ known text is_clean. ⊥; IsBadInput = HasFault (unless_long scenario) }
 task_of asked_check = check_task
-task_of asked_judge = judge_task
+task_of (asked_judge is_brief is_json) = judge_task is_brief is_json
 task_of (asked_run with_journal with_observations key) = run_task with_journal with_observations key
 
 -- the words that a requested task may give for a fault of its input
 abbrev pub explanation_of : TaskState → Explanation
 explanation_of (asked_draw (Some options)) = ExplainsPicture options
 explanation_of asked_check = ExplainsByFields
-explanation_of asked_judge = ExplainsByLine
+explanation_of (asked_judge is_brief is_json) = ExplainsByLine
 explanation_of (asked_run with_journal with_observations key) = ExplainsAs input.Run
 explanation_of _ = ExplainsAs input.Replay
 
 -- whether the ending of a requested task reports a text that is not clean. Only a strict replay and a judgement do so
 abbrev pub is_reporting : TaskState → Bool
 is_reporting (asked_replay is_strict) = is_strict
-is_reporting asked_judge = true
+is_reporting (asked_judge is_brief is_json) = true
 is_reporting _ = false
 
 -- the requested task that is a run with these options
@@ -62,7 +62,7 @@ is_run _ = false
 -- the limits on the use of the reader by a requested task. For a judgement, only the failed calls are limited, because a
 -- log may have any length
 abbrev pub AsksReaderAs : TaskState → StreamState → StreamState → Type 0
-AsksReaderAs asked_judge old new = new.failures ≤ old.failures + most_failed_calls
+AsksReaderAs (asked_judge is_brief is_json) old new = new.failures ≤ old.failures + most_failed_calls
 AsksReaderAs _ old new = AsksReader old new
 
 -- the limits on the use of the reader and the writer by a requested task

@@ -155,7 +155,7 @@ fn is_reporting(task: &Task) -> bool
 {
     match task {
         Task::Replay { is_strict } => *is_strict,
-        Task::Judge => true,
+        Task::Judge { .. } => true,
         Task::Trace | Task::Draw(_) | Task::Check | Task::Run { .. } => false,
     }
 }
@@ -179,7 +179,9 @@ fn read_task<R: Source>(
         Task::Trace => Ok(read_trace(alloc, source)),
         Task::Draw(options) => Ok(read_picture(alloc, source, &options)),
         Task::Check => Ok(read_check(alloc, source)),
-        Task::Judge => Ok(read_judgement(alloc, source)),
+        Task::Judge { is_brief, is_json } => {
+            Ok(read_judgement(alloc, source, is_brief, is_json))
+        }
         Task::Run {
             with_journal,
             with_observations,

@@ -19,7 +19,7 @@ use Rattle.clap.proofs.OnLiterals.{clap_on_literals}
 use Rattle.clap.proofs.WalkLemmas.{first_value-rows}
 use Rattle.mencius_base.specs.Command.{is_name}
 use Rattle.mencius_format.specs.Words.{number_of}
-use Rattle.mencius_command_line.specs.CommandLine.{TaskState, task_in, asked_replay, asked_draw, asked_run, faults, program, with_joined_key}
+use Rattle.mencius_command_line.specs.CommandLine.{TaskState, task_in, asked_replay, asked_draw, asked_judge, asked_run, faults, program, with_joined_key}
 use Rattle.mencius_command_line.specs.Flags.{has_flag}
 use Rattle.mencius_draw.specs.declared.options.Scheme.TheVariants.{Both, Light, Dark}
 
@@ -156,6 +156,22 @@ place-no-number = refl
 place-past-its-limit : fault_at (codes "draw" ∷ codes "--to=4294967296" ∷ []) ≡ kind.ValueValidation ∷ []
 unfolding clap_on_literals number_of
 place-past-its-limit = refl
+
+judge-asked : asked_at (codes "judge" ∷ []) ≡ asked_judge false false
+unfolding clap_on_literals
+judge-asked = refl
+
+brief-asked : asked_at (codes "judge" ∷ codes "--brief" ∷ []) ≡ asked_judge true false
+unfolding clap_on_literals
+brief-asked = refl
+
+json-asked : asked_at (codes "judge" ∷ codes "--json" ∷ []) ≡ asked_judge false true
+unfolding clap_on_literals
+json-asked = refl
+
+json-taken : fault_at (codes "judge" ∷ codes "--json" ∷ codes "--brief" ∷ []) ≡ []
+unfolding clap_on_literals
+json-taken = refl
 
 run-taken : fault_at (codes "run" ∷ []) ≡ []
 unfolding clap_on_literals

@@ -51,9 +51,17 @@ trace_task = new_app (codes "trace")
 abbrev pub check_task : App
 check_task = new_app (codes "check")
 
--- the task `judge`, which has no options
+-- the flag `--brief`
+abbrev pub brief_option : Rule
+brief_option = record (new_rule (codes "brief")) { long = Some (codes "brief"); action = Some SetTrue }
+
+-- the flag `--json`
+abbrev pub json_option : Rule
+json_option = record (new_rule (codes "json")) { long = Some (codes "json"); action = Some SetTrue }
+
+-- the task `judge`, with its options
 abbrev pub judge_task : App
-judge_task = new_app (codes "judge")
+judge_task = with_rule (with_rule (new_app (codes "judge")) brief_option) json_option
 
 -- the task `run`, with its options
 abbrev pub run_task : App
@@ -78,7 +86,7 @@ pub data TaskState : Type 0 where
   asked_trace : TaskState
   asked_draw : (part : Option Options) → TaskState
   asked_check : TaskState
-  asked_judge : TaskState
+  asked_judge : (is_brief is_json : Bool) → TaskState
   asked_run : (with_journal with_observations : Bool) (key : Option Text) → TaskState
 
 -- the task with a name, with the options that were found for it. An unknown name counts as `replay`, and so does a
@@ -91,7 +99,7 @@ task_by_name (Some (name, rows)) =
     else if bytes_eq name (codes "trace") then asked_trace
     else if bytes_eq name (codes "draw") then asked_draw (options_of rows)
     else if bytes_eq name (codes "check") then asked_check
-    else if bytes_eq name (codes "judge") then asked_judge
+    else if bytes_eq name (codes "judge") then asked_judge (has_flag (codes "brief") rows) (has_flag (codes "json") rows)
     else asked_replay (has_flag (codes "strict") rows)
 
 -- the words with each `--lookup` joined to the word after it, as `--lookup=KEY`, because a KEY may begin with a hyphen
@@ -116,7 +124,7 @@ task_state (task.Replay is_strict) = asked_replay is_strict
 task_state task.Trace = asked_trace
 task_state (task.Draw options) = asked_draw (Some options)
 task_state task.Check = asked_check
-task_state task.Judge = asked_judge
+task_state (task.Judge is_brief is_json) = asked_judge is_brief is_json
 task_state (task.Run with_journal with_observations key) =
     asked_run with_journal with_observations (option_map string_bytes key)
 
@@ -137,7 +145,7 @@ value_faults (asked_replay is_strict) = []
 value_faults asked_trace = []
 value_faults (asked_draw part) = part_faults part
 value_faults asked_check = []
-value_faults asked_judge = []
+value_faults (asked_judge is_brief is_json) = []
 value_faults (asked_run with_journal with_observations None) = []
 value_faults (asked_run with_journal with_observations (Some key)) = bad_key_faults (if is_key key then None else Some key)
 

@@ -3,7 +3,7 @@
 ghost use Rattle.std.specs.Prelude.{◌≡◌, ◌≤◌, ◌∷◌, false, IfErr, IfOk, Some, codes, length, map, option_copied, option_map, string_bytes};
 ghost use Rattle.clap.specs.declared.builder.command.Command.TheViews.{out-Command as fields_of};
 ghost use Rattle.clap.specs.Words.{FailsBy, HasKind, app_of, first_of, found_of, kind_of, rows_of, rule_of, subcommand_rows_of};
-ghost use Rattle.mencius_command_line.specs.CommandLine.{task_in, task_by_name, task_state, bad_key_faults, faults, check_task, is_key, journal_option, judge_task, lookup_option, observations_option, program, replay_task, run_task, strict_option, trace_task, value_faults, with_joined_key, with_replays, without_tasks, words_read};
+ghost use Rattle.mencius_command_line.specs.CommandLine.{task_in, task_by_name, task_state, bad_key_faults, brief_option, faults, check_task, is_key, journal_option, json_option, judge_task, lookup_option, observations_option, program, replay_task, run_task, strict_option, trace_task, value_faults, with_joined_key, with_replays, without_tasks, words_read};
 ghost use Rattle.mencius_command_line.specs.Flags.{has_flag};
 
 use crate::draw_options::{draw_command, options_of};
@@ -28,7 +28,12 @@ pub enum Task {
     /// A check of the scenario on standard input.
     Check,
     /// A judgement of the log on standard input.
-    Judge,
+    Judge {
+        /// Whether only the line of the verdict is printed.
+        is_brief: bool,
+        /// Whether the verdict is printed as a JSON object.
+        is_json: bool,
+    },
     /// A run of the workers of the scenario on standard input.
     Run {
         /// Whether the journal is printed before the report.
@@ -51,7 +56,7 @@ const TRACE_USAGE: &str = "mencius trace < SCENARIO";
 
 const CHECK_USAGE: &str = "mencius check < SCENARIO";
 
-const JUDGE_USAGE: &str = "mencius judge < LOG";
+const JUDGE_USAGE: &str = "mencius judge [OPTIONS] < LOG";
 
 const RUN_USAGE: &str = "mencius run [OPTIONS] < SCENARIO";
 
@@ -134,12 +139,35 @@ fn check_command<'a>(alloc: Global) -> Command<'a>
     Command::new(alloc, "check").override_usage(CHECK_USAGE)
 }
 
-// Builds the task `judge`.
-fn judge_command<'a>(alloc: Global) -> Command<'a>
-    ensures judge { app_of result ≡ judge_task }
-    ensures local { (fields_of result).has_globals ≡ false }
+// Builds the option `--brief`.
+fn brief_option<'a>(alloc: Global) -> Arg<'a>
+    ensures rule { rule_of result ≡ brief_option }
+    ensures local { result.global ≡ false }
 {
-    Command::new(alloc, "judge").override_usage(JUDGE_USAGE)
+    Arg::new(alloc, "brief")
+        .long("brief")
+        .action(ArgAction::SetTrue)
+}
+
+// Builds the option `--json`.
+fn json_option<'a>(alloc: Global) -> Arg<'a>
+    ensures rule { rule_of result ≡ json_option }
+    ensures local { result.global ≡ false }
+{
+    Arg::new(alloc, "json")
+        .long("json")
+        .action(ArgAction::SetTrue)
+}
+
+// Builds the task `judge`, with its options.
+fn judge_command<'a>(alloc: Global) -> Result<Command<'a>, AllocError>
+    ensures judge { IfOk result (λ command. app_of command ≡ judge_task) }
+    ensures local { IfOk result (λ command. (fields_of command).has_globals ≡ false) }
+{
+    Command::new(alloc, "judge")
+        .override_usage(JUDGE_USAGE)
+        .arg(brief_option(alloc))?
+        .arg(json_option(alloc))
 }
 
 // Builds the program without its tasks.
@@ -167,7 +195,7 @@ fn command_line<'a>(alloc: Global) -> Result<Command<'a>, AllocError>
     ensures { IfOk result (λ command. app_of command ≡ program) }
 {
     with_replays(alloc)?
-        .subcommand(judge_command(alloc))?
+        .subcommand(judge_command(alloc)?)?
         .subcommand(run_command(alloc)?)
 }
 
@@ -257,7 +285,9 @@ fn task_named(alloc: Global, name: &str, options: &ArgMatches) -> Result<Task, E
         return Ok(Task::Check);
     }
     if name == "judge" {
-        return Ok(Task::Judge);
+        let is_brief = has_flag(options, "brief");
+        let is_json = has_flag(options, "json");
+        return Ok(Task::Judge { is_brief, is_json });
     }
     let is_strict = has_flag(options, "strict");
     Ok(Task::Replay { is_strict })
@@ -322,7 +352,7 @@ fn key_error(alloc: Global, key: &str) -> Result<Error, AllocError>
 /// - `trace`
 /// - `draw [--from EVENT] [--to EVENT] [--dark] [--light]`
 /// - `check`
-/// - `judge`
+/// - `judge [--brief] [--json]`
 /// - `run [--journal] [--observations] [--lookup KEY]`
 ///
 /// A KEY that is not a key of a command is also refused. So is an EVENT that is not a number.

@@ -260,32 +260,42 @@ const JUDGE_HELP: &str = "\
 Judges the log of any replicated store on standard input
 
 The log has one observation per line, in the order in which an observer made them. The program
-judges each line as it arrives, and the log may have any length. A server S is 0 to 255, and a
-reader R is 0 to 4294967295. ID, KEY and TEXT are as in `replay`.
+judges each line as it arrives, and the log may have any length. Servers S and T, a reader R
+and a number N are 0 to 4294967295. ID, KEY and TEXT are as in `replay`.
 
   submit ID set KEY TEXT    A client submitted a command, perhaps again. The others are
                             `get KEY`, `del KEY` and `cas KEY OLD NEW`
   execute S ID              Server S executed this command next
+  restore S T N             Server S, which had executed nothing, took over the first N
+                            commands of server T. A server that starts anew takes a new number
   reply ID none             A client got the reply to its command: no text was at its key,
-  reply ID =TEXT            .. or this text
+  reply ID =TEXT            .. or this text,
+  reply ID ok               .. or only that the command took effect,
+  reply ID failed           .. or that it changed nothing and never will
+  settled S                 Server S claims to have each command that had a reply before this
+                            line, other than `failed`
   lookup R KEY none         Reader R looked KEY up, and found no text,
   lookup R KEY =TEXT        .. or this text
   told R S                  Reader R now knows of all commands that server S has executed
   # ..                      This line is skipped, as an empty line is
 
-The program prints one line. It prints a violation at once, and otherwise `ok` at the end:
+The first line of the output is the verdict. The program prints a violation at once, and
+otherwise one of the first two verdicts at the end:
 
-  ok servers N commands C executed E replies R open O lookups L
-                            Every promise is kept. N servers executed commands, C commands
-                            were submitted, the longest history has E commands, and R have a
-                            reply. O of these are in no history, so their replies may be
-                            right or wrong
+  ok servers N commands C executed E replies R open 0 lookups L shortest M
+                            Every promise is kept. N servers have a history, C commands were
+                            submitted, the longest history has E commands and the shortest M,
+                            R commands have a reply, and L lookups were made
+  unjudged servers N commands C executed E replies R open O lookups L shortest M
+                            No promise is broken, but no server has a history, or O commands
+                            with a reply are in no history. These replies may be right or
+                            wrong. A reply `failed` does not count here
   violation LINE OneCommand command ID
                             A different command was submitted under this ID before
   violation LINE Submitted command ID
                             The executed or replied command was never submitted
   violation LINE Once server S place P command ID
-                            S executed the command twice. Places in a history count from 0
+                            S had the command already. Places in a history count from 0
   violation LINE SameOrder server S place P expected ID found ID
                             Another server executed a different command at this place
   violation LINE RealTime server S place P command ID behind ID
@@ -294,29 +304,39 @@ The program prints one line. It prints a violation at once, and otherwise `ok` a
   violation LINE OneReply command ID expected =TEXT found none
                             The command had a different reply before
   violation LINE RightReply command ID place P expected none found =TEXT
-                            A map that executes the history returns a different result
+                            A map that executes only the commands before this place has the
+                            expected text at the key, and the reply is not right for it
   violation LINE RightLookup reader R key KEY from N to M found =TEXT
                             The reader had seen N commands. KEY has this text after none of
                             the prefixes with N to M commands
+  violation LINE Settled server S command ID
+                            S does not have this command, which had a reply before
+  violation LINE Restore server S from T place N
+                            S has a history already, or T has fewer than N commands
 
-LINE counts all lines of the log from 1. The lines after it do not change the verdict.
+LINE counts all lines of the log from 1. The lines after it do not change the verdict. After a
+violation come the lines of the log that prove it, each as `line K: OBSERVATION`, and then a
+sentence that says what was expected and why.
 
-Usage: mencius judge < LOG
+Usage: mencius judge [OPTIONS] < LOG
 
 Options:
-  -h, --help  Print help
+      --brief  Prints only the line of the verdict
+      --json   Prints the verdict, its lines and its sentence as one JSON object
+  -h, --help   Print help
 
 Exit status:
-  0  every promise is kept
-  1  a promise is broken
+  0  ok: every promise is kept
+  1  a promise is broken, or the log is unjudged
   2  a bad command line
   3  a bad line: 22 BadShape, 23 BadLimit
   4  reading or writing failed: 24 ReadFailed, 25 WriteFailed
   5  memory ran out: 26 NoMemory
 With status 3 to 5, standard error has the line `mencius: fault NUMBER NAME`. If a line of the
-log is bad, a second line gives its number and says how it is wrong, unless memory for that
+log is bad, a second line gives its number and says which word is wrong, unless memory for that
 line ran out. The program then printed nothing, unless writing failed. A line has at most 1024
-bytes. The last line must end with a line feed, too.
+bytes. The last line must end with a line feed, too. A carriage return before a line feed is
+left out.
 
 Examples, at the top of the repository. The second breaks a promise:
   printf 'submit 1.0 set a x\\nexecute 0 1.0\\nreply 1.0 none\\n' | ./mencius judge

@@ -197,7 +197,7 @@ unread_takes None = ([], omega arith, tt)
 unread_takes (Some bytes) = ([], omega arith, refl)
 
 pub asks_nothing : (task : TaskState) (state : StreamState) → AsksReaderAs task state state
-asks_nothing asked_judge state = omega arith
+asks_nothing (asked_judge is_brief is_json) state = omega arith
 asks_nothing _ state = record { taken = unread_takes state.bytes; tried = omega arith }
 
 -- no fault of input, output or memory is reported as the fault of the board

@@ -1,0 +1,31 @@
+use Rattle.std.proofs.Common.{Bool, ◌≡◌, ◌∙◌, ap, ap₂, codes, false}
+use Rattle.std.specs.Prelude.{◌||◌}
+use Rattle.std.proofs.lemmas.Result.{IfOk-weaker}
+use Rattle.clap.specs.Simple.{app_of_fields}
+use Rattle.clap.specs.Words.{app_of, new_app, with_rule}
+use Rattle.clap.specs.declared.builder.command.Command.{Command}
+use Rattle.clap.specs.declared.builder.command.Command.TheOpen.{Command-F}
+use Rattle.clap.specs.declared.builder.command.Command.TheViews.{out-Command as fields_of}
+use Rattle.mencius_command_line.specs.CommandLine.{brief_option}
+use Rattle.mencius_command_line.proofs.line.judge_command.Goals as goal
+
+abbrev has_globals : Command-F Command → Bool
+has_globals fields = fields.has_globals
+
+pub returns-clause-judge : goal.returns-clause-judge
+returns-clause-judge c =
+    let judge_is : app_of c.override_usage.result ≡ new_app (codes "judge") =
+    ap app_of_fields c.override_usage.ensures ∙ c.new.ensures.app in
+    let first : app_of c.in_ok-arg.field-0 ≡ with_rule (new_app (codes "judge")) brief_option =
+    c.in_ok-arg.ensures.shape c.brief_option.ensures.local ∙ ap₂ with_rule judge_is c.brief_option.ensures.rule in
+    IfOk-weaker c.arg-2.result _ _ (λ r h. h.shape c.json_option.ensures.local
+    ∙ ap₂ with_rule first c.json_option.ensures.rule) c.arg-2.ensures
+
+pub returns-clause-local : goal.returns-clause-local
+returns-clause-local c =
+    let before : (fields_of c.override_usage.result).has_globals ≡ false =
+    ap has_globals c.override_usage.ensures ∙ c.new.ensures.local in
+    let first : (fields_of c.in_ok-arg.field-0).has_globals ≡ false = c.in_ok-arg.ensures.globals
+    ∙ ap₂ (λ x y. x || y) before c.brief_option.ensures.local in
+    IfOk-weaker c.arg-2.result _ _ (λ r h. h.globals
+    ∙ ap₂ (λ x y. x || y) first c.json_option.ensures.local) c.arg-2.ensures
