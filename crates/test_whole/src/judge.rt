@@ -15,7 +15,7 @@ const TWO: &str = "submit 1.0 set a x\nsubmit 2.0 set a y";
 
 const BOTH: &str = "submit 1.0 set a x\nsubmit 2.0 set a y\nexecute 0 1.0\nexecute 0 2.0";
 
-const LOGS: [(&str, &str, Found); 14] = [
+const LOGS: [(&str, &str, Found); 18] = [
     // A reply comes before its execution, and a client submits its command again.
     (
         TWO,
@@ -61,6 +61,18 @@ const LOGS: [(&str, &str, Found); 14] = [
     ),
     (BOTH, "lookup 1 a =z", Some((0, Promise::RightLookup))),
     (TWO, "lookup 1 a =x", Some((0, Promise::RightLookup))),
+    (
+        BOTH,
+        "reply 2.0 ok\nsettled 0\nsettled 1",
+        Some((2, Promise::Settled)),
+    ),
+    (BOTH, "reply 1.0 failed", Some((0, Promise::RightReply))),
+    (
+        BOTH,
+        "restore 7 0 2\nrestore 7 0 2",
+        Some((1, Promise::Restore)),
+    ),
+    (BOTH, "restore 7 0 1\nexecute 7 2.0\nsettled 7", None),
 ];
 
 // Returns the observation of a line, if it has one, or `None` if the line has a fault.
@@ -69,18 +81,23 @@ fn parsed(alloc: Global, line: &str) -> Option<Option<Observation>> {
 }
 
 // Passes a line to a judge. Returns the promise that it breaks, if any.
-fn see_line(alloc: Global, judge: &mut Judge, line: &str) -> Result<Option<Promise>, Fail> {
+fn see_line(
+    alloc: Global,
+    judge: &mut Judge,
+    number: u64,
+    line: &str,
+) -> Result<Option<Promise>, Fail> {
     let observation = parsed(alloc, line).flatten().ok_or("no observation")?;
-    match judge.observe(&observation)? {
+    match judge.observe(number, &observation)? {
         Some(violation) => Ok(Some(violation.promise())),
         None => Ok(None),
     }
 }
 
-// Passes the lines to a judge, up to the first line that breaks a promise.
-fn see(alloc: Global, judge: &mut Judge, lines: &str) -> Result<Found, Fail> {
+// Passes the lines to a judge, up to the first line that breaks a promise. The lines have the numbers from `first` on.
+fn see(alloc: Global, judge: &mut Judge, first: u64, lines: &str) -> Result<Found, Fail> {
     for (place, line) in lines.split('\n').enumerate() {
-        if let Some(promise) = see_line(alloc, judge, line)? {
+        if let Some(promise) = see_line(alloc, judge, first + place as u64, line)? {
             return Ok(Some((place, promise)));
         }
     }
@@ -91,10 +108,11 @@ fn assert_found(
     rt: &impl Abort,
     alloc: Global,
     judge: &mut Judge,
+    first: u64,
     lines: &str,
     found: Found,
 ) -> Result<(), Fail> {
-    assert_same(rt, &see(alloc, judge, lines)?, &found, lines);
+    assert_same(rt, &see(alloc, judge, first, lines)?, &found, lines);
     Ok(())
 }
 
@@ -103,8 +121,8 @@ fn worked_logs(rt: HostRuntime) -> Result<(), Fail> {
     let alloc = rt.alloc();
     for (before, lines, found) in LOGS {
         let mut judge = Judge::new(alloc)?;
-        assert_found(&rt, alloc, &mut judge, before, None)?;
-        assert_found(&rt, alloc, &mut judge, lines, found)?;
+        assert_found(&rt, alloc, &mut judge, 1, before, None)?;
+        assert_found(&rt, alloc, &mut judge, 101, lines, found)?;
     }
     Ok(())
 }
@@ -117,16 +135,22 @@ fn says(alloc: Global, line: &str) -> Option<bool> {
     }
 }
 
-const LINES: [(&str, Option<bool>); 12] = [
+const LINES: [(&str, Option<bool>); 18] = [
     ("", Some(false)),
     ("# a remark", Some(false)),
     ("submit 1.0 cas a x y", Some(true)),
-    ("execute 255 1.0", Some(true)),
+    ("execute 4294967295 1.0", Some(true)),
     ("reply 1.0 none", Some(true)),
+    ("reply 1.0 ok\r", Some(true)),
+    ("reply 1.0 failed", Some(true)),
+    ("settled 7", Some(true)),
+    ("restore 7 0 2", Some(true)),
+    ("\r", Some(false)),
     ("reply 1.0 =", Some(true)),
     ("lookup 7 a =x", Some(true)),
     ("told 7 0", Some(true)),
-    ("execute 256 1.0", None),
+    ("execute 4294967296 1.0", None),
+    ("restore 7 0", None),
     ("reply 1.0 x", None),
     ("told 7", None),
     (" told 7 0", None),

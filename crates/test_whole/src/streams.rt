@@ -180,7 +180,7 @@ fn make<R: Abort + Threads + Wait + Sync>(
         Call::Replay => return replay(alloc, source, sink),
         Call::Trace => trace(alloc, source, sink),
         Call::Check => check(alloc, source, sink),
-        Call::Judge => judged_in(rt, judge(alloc, source, sink)),
+        Call::Judge => judged_in(rt, judge(alloc, source, sink, false, false)),
         Call::Draw => draw(alloc, source, sink, &WHOLE),
         Call::Run => return run(rt, alloc, source, sink, &Open, true, Some("a")),
         Call::Report => return report(alloc, &cluster_after(rt, alloc, SCENARIO), sink),
