@@ -1,15 +1,18 @@
 #!/usr/bin/env python3
 """A toy store with a primary and two backups, which prints what an observer sees of it, as `mencius judge` reads it.
 
-    examples/primary_backup.py [--early-reply] [SEED]
+    examples/primary_backup.py [--early-reply] [--idle] [SEED]
 
 Server 0 is the primary. It executes a command, hands it to the backups, and answers once both have it. Halfway the
 primary stops, and server 1 takes its place. With --early-reply the primary answers at once, and the backups get the
-command later: then the new primary may lack commands that had a reply.
+command later: then the new primary may lack commands that had a reply. With --idle no client asks anything after the
+primary has stopped. At the end each living server claims to have everything that had a reply.
 """
 import random
 import signal
 import sys
+
+STOP = 10  # the number of commands before the primary stops
 
 
 class Observer:
@@ -33,6 +36,9 @@ class Observer:
     def told(self, reader, server):
         self.see("told", reader, server)
 
+    def settled(self, server):
+        self.see("settled", server)
+
 
 def answer(text):
     return "none" if text is None else "=" + text
@@ -54,16 +60,21 @@ class Server:
             self.execute(*self.waiting.pop(0))
 
 
+def fail_over(servers):
+    """The primary stops, and what it has not yet handed over is lost."""
+    for server in servers:
+        server.waiting.clear()
+    return servers[1:]
+
+
 def serve(observer, chance, is_early, commands):
     servers = [Server(number, observer) for number in range(3)]
     for number in range(commands):
-        if number == commands // 2:
-            servers = servers[1:]
+        if number == STOP:
+            servers = fail_over(servers)
         primary, *backups = servers
         name, key, text = f"1.{number}", chance.choice("ab"), f"t{number}"
         observer.submit(name, "set", key, text)
-        # The new primary has not heard of what still waits for it.
-        primary.waiting.clear()
         former = primary.execute(name, key, text)
         for backup in backups:
             backup.waiting.append((name, key, text))
@@ -74,13 +85,19 @@ def serve(observer, chance, is_early, commands):
         backup = chance.choice(backups)
         key = chance.choice("ab")
         observer.lookup(backup.number, key, backup.texts.get(key))
+    if commands <= STOP:
+        servers = fail_over(servers)
+    for server in servers:
+        server.catch_up()
+        observer.settled(server.number)
 
 
 def main():
     # A judge that has found something reads no more.
     signal.signal(signal.SIGPIPE, signal.SIG_DFL)
-    words = [word for word in sys.argv[1:] if word != "--early-reply"]
-    serve(Observer(), random.Random(int(words[0]) if words else 1), "--early-reply" in sys.argv, 20)
+    options = [word for word in sys.argv[1:] if word.startswith("--")]
+    seed = int(next((word for word in sys.argv[1:] if word not in options), 1))
+    serve(Observer(), random.Random(seed), "--early-reply" in options, STOP if "--idle" in options else 2 * STOP)
 
 
 if __name__ == "__main__":

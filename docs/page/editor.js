@@ -68,23 +68,6 @@ function drawByWorker(core, former) {
 
 // ---- the log of a store
 
-// The description of each violation. `w` contains the words after the name of the promise.
-const VIOLATIONS = {
-  OneCommand: w => `Another command was submitted as ${w[1]} before. An ID names only one command.`,
-  Submitted: w => `Command ${w[1]} is executed or answered here, but no earlier line submits it.`,
-  Once: w => `Server ${w[1]} executes command ${w[5]} again, at place ${w[3]} of its history.`,
-  SameOrder: w => `Server ${w[1]} executes ${w[7]} at place ${w[3]} of its history, but another server executed`
-    + ` ${w[5]} at that place. The histories can never agree again.`,
-  RealTime: w => `Server ${w[1]} executes ${w[5]} at place ${w[3]}, before ${w[7]}. But ${w[7]} already had its reply`
-    + ` when ${w[5]} was first submitted.`,
-  OneReply: w => `The reply to command ${w[1]} is ${inWords(w[5])}, but an earlier reply was ${inWords(w[3])}.`,
-  RightReply: w => `Command ${w[1]} is at place ${w[3]}. A map that executes the history replies`
-    + ` ${inWords(w[5])} there, and not ${inWords(w[7])}.`,
-  RightLookup: w => `Reader ${w[1]} found ${inWords(w[9])} at key ${w[3]}, but the key never held that after the first`
-    + ` ${w[5]} to ${w[7]} commands. The reader has seen at least ${w[5]} commands.`,
-};
-const inWords = answer => answer === 'none' ? 'no text' : `“${answer.slice(1)}”`;
-
 // The log that an observer of this schedule would write.
 function logOf({ events }) {
   const seen = [];
@@ -100,31 +83,33 @@ function logOf({ events }) {
   return seen.map(line => line + '\n').join('');
 }
 
+// Shows the verdict on the log, the lines that it quotes, and what it means. For a violation, the program says that.
 function judgeLog(core) {
-  const area = $('log'), answer = core.call(['judge'], area.value), words = answer.printed.trim().split(' ');
-  const isBroken = words[0] === 'violation';
-  const said = answer.status === 0 || isBroken ? answer.printed.trim() : wordsOf(answer.said);
-  mark(area, answer.status === 0 ? null : placeOfMistake(area.value, isBroken ? `line ${words[1]}` : said));
+  const area = $('log'), answer = core.call(['judge'], area.value);
+  const [verdict, ...quoted] = answer.printed.trim().split('\n'), words = verdict.split(' ');
+  const isBroken = words[0] === 'violation', sentence = isBroken ? quoted.pop() : '';
+  const said = verdict || wordsOf(answer.said);
+  mark(area, verdict && !isBroken ? null : placeOfMistake(area.value, isBroken ? `line ${words[1]}` : said));
   showVerdict('judgement', said, answer.status !== 0);
-  $('in-words').textContent = answer.status === 0 ? keptInWords(words) : isBroken ? brokenInWords(words)
-    : badLineInWords(said);
+  $('quoted').textContent = quoted.join('\n');
+  $('in-words').textContent = isBroken ? sentence : verdict ? keptInWords(words) : badLineInWords(said);
 }
 
 // Explains a mistake in a line of a log. For other faults, the text is empty.
 function badLineInWords(said) {
   if (!said.startsWith('line ')) return '';
-  return said.endsWith('ends in it') ? 'The last line has no end, so there is no verdict. Put a line break after it.'
+  return said.includes(': the log ends in it')
+    ? 'The last line has no end, so there is no verdict. Put a line break after it.'
     : 'This line is not an observation, so there is no verdict.';
-}
-
-function brokenInWords([, line, promise, ...words]) {
-  return `Line ${line} breaks the promise ${promise}. ${VIOLATIONS[promise](words)}`;
 }
 
 function keptInWords(w) {
   const repliesOf = number => `${number} ${number === 1 ? 'reply' : 'replies'}`;
-  const open = w[10] === '0' ? '' : ` Whether ${repliesOf(+w[10])} to commands that are in no history`
-    + ` ${w[10] === '1' ? 'is' : 'are'} right could not be judged.`;
-  return `All eight promises are kept: ${count(+w[2], 'server')} executed ${w[6]} of ${count(+w[4], 'command')},`
-    + ` ${repliesOf(w[8] - w[10])} and ${count(+w[12], 'lookup')} are right.${open}`;
+  const kept = `All ten promises are kept: ${count(+w[2], 'server')} executed ${w[6]} of ${count(+w[4], 'command')},`
+    + ` ${repliesOf(w[8] - w[10])} and ${count(+w[12], 'lookup')} are right.`;
+  if (w[0] === 'ok') return kept;
+  const open = w[10] === '0' ? 'No server executed a command.'
+    : `Whether ${repliesOf(+w[10])} to commands that are in no history ${w[10] === '1' ? 'is' : 'are'} right could not`
+    + ' be judged.';
+  return `${kept} But that says too little. ${open}`;
 }
