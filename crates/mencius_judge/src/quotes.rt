@@ -31,8 +31,8 @@ impl Judge {
     /// - for `SameOrder`, the first execution at the place;
     /// - for `RealTime`, the submission of and the reply to the earlier command, and the submission of the later one;
     /// - for `OneReply` and `Settled`, the first reply to the command;
-    /// - for `RightReply`, the submission of the command, its reply, its first execution, and the submission of the last
-    ///   command before it that changed its key;
+    /// - for `RightReply`, the submission of the command, its reply, its first execution, and the submission of the
+    ///   last command before it that changed its key;
     /// - for `RightLookup`, the submissions of the last command that the reader has seen, and of the last one that
     ///   changed the key;
     /// - for `Restore`, the line that gave the server its first command.
@@ -152,7 +152,8 @@ impl Judge {
 
     // Quotes the submission of the last of the first `count` commands of the longest history.
     fn quote_last(&self, quotes: &mut Vec<Quote>, count: usize) -> Result<(), NoMemory>
-        ensures { OnOk result (AddsSeen self.now (IsLastOf self.now.histories.order.items count) quotes.old.items quotes.new.items) }
+        ensures { OnOk result (AddsSeen self.now (IsLastOf self.now.histories.order.items count)
+            quotes.old.items quotes.new.items) }
     {
         let Some(place) = count.checked_sub(1) else {
             return Ok(());
@@ -170,7 +171,8 @@ impl Judge {
         server: u32,
         id: CommandId,
     ) -> Result<(), NoMemory>
-        ensures { OnOk result (AddsSeen self.now (IsGiftOf self.now.histories.order.items server id) quotes.old.items quotes.new.items) }
+        ensures { OnOk result (AddsSeen self.now (IsGiftOf self.now.histories.order.items server id)
+            quotes.old.items quotes.new.items) }
     {
         match self.executions.get(&identity_key(id)) {
             Some(execution) => self.quote_gift(quotes, server, execution.place),

@@ -42,7 +42,7 @@ commands-length w (id ∷ ids) h =
     ap length (commands-cons_known w id there.0 ids there.1)
     ∙ ap suc (commands-length w ids (λ m x e. h (suc m) x e))
 
-take-less : {A : Type 0} (n m : ℕ) (xs : List A) → n ≤ m → take n (take m xs) ≡ take n xs
+pub take-less : {A : Type 0} (n m : ℕ) (xs : List A) → n ≤ m → take n (take m xs) ≡ take n xs
 take-less zero m xs h = refl
 take-less (suc n) zero xs h = absurd (omega arith)
 take-less (suc n) (suc m) [] h = refl

@@ -1,5 +1,5 @@
 -- The first commands of a history, after a further line, are those of the longest history before the line.
-use Rattle.std.proofs.Common.{◌≡◌, ℕ, zero, suc, ◌+◌, ◌<◌, ◌≤◌, Bool, true, false, cond, eqb, is_some, List, [], ◌∷◌, ◌++◌, Some, length, slice_get, take, arith, refl, sym, ap, ◌∙◌, length-append, length-take}
+use Rattle.std.proofs.Common.{◌≡◌, ℕ, zero, suc, ◌<◌, ◌≤◌, Bool, true, false, cond, eqb, is_some, List, [], ◌∷◌, ◌++◌, Some, length, slice_get, take, arith, refl, sym, ap, ◌∙◌, length-append, length-take}
 use Rattle.std.proofs.lemmas.List.{take-append-le}
 use Rattle.mencius_base.specs.declared.command.CommandId.{CommandId}
 use Rattle.mencius_model.specs.KeyMap.{value_at}
@@ -10,29 +10,17 @@ use Rattle.mencius_judge.specs.Log.{Log, command_of, commands_of, history}
 use Rattle.mencius_judge.specs.Rows.{Places, count_of}
 use Rattle.mencius_judge.specs.Tables.{AreHistories, IsOrder}
 use Rattle.mencius_judge.specs.Timelines.{held_by}
+use Rattle.mencius_judge.proofs.observations.HistorySteps.{whole_get}
+use Rattle.mencius_judge.proofs.promises.Floors.{take-less}
 use Rattle.mencius_judge.proofs.promises.Logs.{commands-cons_known, kept_command, known}
-use Rattle.mencius_judge.proofs.sources.Places.{none_some}
 
 -- ---- lists
-
-pub take-less : {A : Type 0} (n m : ℕ) (xs : List A) → n ≤ m → take n (take m xs) ≡ take n xs
-take-less zero m xs h = refl
-take-less (suc n) zero xs h = absurd (omega arith)
-take-less (suc n) (suc m) [] h = refl
-take-less (suc n) (suc m) (x ∷ xs) h = ap (λ ys. x ∷ ys) (take-less n m xs (omega arith))
 
 pub taken_item : {A : Type 0} (n : ℕ) (xs : List A) (m : ℕ) → m < n → slice_get (take n xs) m ≡ slice_get xs m
 taken_item zero xs m less = absurd (omega arith)
 taken_item (suc n) [] m less = refl
 taken_item (suc n) (x ∷ xs) zero less = refl
 taken_item (suc n) (x ∷ xs) (suc m) less = taken_item n xs m (omega arith)
-
--- the items of a prefix are items of the list
-pub whole_item : {A : Type 0} (n : ℕ) (xs : List A) (m : ℕ) (x : A) → slice_get (take n xs) m ≡ Some x → slice_get xs m ≡ Some x
-whole_item zero xs m x e = absurd (none_some e)
-whole_item (suc n) [] m x e = e
-whole_item (suc n) (y ∷ xs) zero x e = e
-whole_item (suc n) (y ∷ xs) (suc m) x e = whole_item n xs m x e
 
 -- lists with the same first n items have the same first k items, for each lower k
 pub fewer : {A : Type 0} (k n : ℕ) (xs ys : List A) → k ≤ n → take n xs ≡ take n ys → take k xs ≡ take k ys
@@ -77,46 +65,47 @@ still_commands w o (id ∷ ids) h =
 
 -- ---- histories
 
-module _ (w : Log) (order : List CommandId) (places : Places) (rows : List Row) (h : AreHistories w order places rows) where
-  -- the first k items of the list are those of the longest history
-  abbrev Begins : List CommandId → ℕ → Type 0
-  Begins ids k = (take k ids ≡ take k order) × (k ≤ length order)
+module _ (w : Log) (order : List CommandId) (places : Places) (rows : List Row) (h : AreHistories w order places rows)
+  where
+    -- the first k items of the list are those of the longest history
+    abbrev Begins : List CommandId → ℕ → Type 0
+    Begins ids k = (take k ids ≡ take k order) × (k ≤ length order)
 
-  was : (p k : ℕ) → k ≤ length (history w p) → Begins (history w p) k
-  was p k le =
-      let few = h.within p in
-      let size : length (history w p) ≡ count_of places rows p =
-      ap length (h.each p) ∙ length-take (count_of places rows p) order ∙ omega (arith, few) in (
-        ap (take k) (h.each p) ∙ take-less k (count_of places rows p) order (omega (arith, le, size)),
-        omega (arith, le, size, few),
-      )
+    was : (p k : ℕ) → k ≤ length (history w p) → Begins (history w p) k
+    was p k le =
+        let few = h.within p in
+        let size : length (history w p) ≡ count_of places rows p =
+        ap length (h.each p) ∙ length-take (count_of places rows p) order ∙ omega (arith, few) in (
+          ap (take k) (h.each p) ∙ take-less k (count_of places rows p) order (omega (arith, le, size)),
+          omega (arith, le, size, few),
+        )
 
-  pub begins : (o : Observation) (p k : ℕ) → k < length (history (o ∷ w) p)
-      → (take k (history (o ∷ w) p) ≡ take k order) × (k ≤ length order)
-  begins (Submit c) p k less = was p k (omega arith)
-  begins (Execute server x) p k less = by_test (eqb server p) less
-    where
-      by_test : (d : Bool) → k < length (cond d (history w p ++ x ∷ []) (history w p))
-          → Begins (cond d (history w p ++ x ∷ []) (history w p)) k
-      by_test true more =
-          let size = length-append (history w p) (x ∷ []) in
-          let le : k ≤ length (history w p) = omega (arith, more, size) in
-          let r = was p k le in
-          (take-append-le k (history w p) (x ∷ []) le ∙ r.0, r.1)
-      by_test false more = was p k (omega (arith, more))
-  begins (Reply x answer) p k less = was p k (omega arith)
-  begins (Lookup reader key text) p k less = was p k (omega arith)
-  begins (Tell reader server) p k less = was p k (omega arith)
-  begins (Settle server) p k less = was p k (omega arith)
-  begins (Restore server source count) p k less = by_test (eqb server p) less
-    where
-      by_test : (d : Bool) → k < length (cond d (take count (history w source)) (history w p))
-          → Begins (cond d (take count (history w source)) (history w p)) k
-      by_test true more =
-          let size = length-take count (history w source) in
-          let r = was source k (omega (arith, more, size)) in
-          (take-less k count (history w source) (omega (arith, more, size)) ∙ r.0, r.1)
-      by_test false more = was p k (omega (arith, more))
+    pub begins : (o : Observation) (p k : ℕ) → k < length (history (o ∷ w) p)
+        → (take k (history (o ∷ w) p) ≡ take k order) × (k ≤ length order)
+    begins (Submit c) p k less = was p k (omega arith)
+    begins (Execute server x) p k less = by_test (eqb server p) less
+      where
+        by_test : (d : Bool) → k < length (cond d (history w p ++ x ∷ []) (history w p))
+            → Begins (cond d (history w p ++ x ∷ []) (history w p)) k
+        by_test true more =
+            let size = length-append (history w p) (x ∷ []) in
+            let le : k ≤ length (history w p) = omega (arith, more, size) in
+            let r = was p k le in
+            (take-append-le k (history w p) (x ∷ []) le ∙ r.0, r.1)
+        by_test false more = was p k (omega (arith, more))
+    begins (Reply x answer) p k less = was p k (omega arith)
+    begins (Lookup reader key text) p k less = was p k (omega arith)
+    begins (Tell reader server) p k less = was p k (omega arith)
+    begins (Settle server) p k less = was p k (omega arith)
+    begins (Restore server source count) p k less = by_test (eqb server p) less
+      where
+        by_test : (d : Bool) → k < length (cond d (take count (history w source)) (history w p))
+            → Begins (cond d (take count (history w source)) (history w p)) k
+        by_test true more =
+            let size = length-take count (history w source) in
+            let r = was source k (omega (arith, more, size)) in
+            (take-less k count (history w source) (omega (arith, more, size)) ∙ r.0, r.1)
+        by_test false more = was p k (omega (arith, more))
 
 -- ---- texts
 
@@ -127,7 +116,7 @@ same_held w o order ids key n k facts same le =
     ap (value_at key)
     (front_commands (o ∷ w) ids k new_known
     ∙ ap (commands_of (o ∷ w)) (fewer k n ids order le same)
-    ∙ still_commands w o (take k order) (λ m id e. facts.known m id (whole_item k order m id e))
+    ∙ still_commands w o (take k order) (λ m id e. facts.known m id (whole_get k order m id e))
     ∙ sym (front_commands w order k (λ m id less e. facts.known m id e)))
   where
     new_known : AreKnownTo (o ∷ w) ids k

@@ -36,7 +36,8 @@ Either xs i y k x =
     ((k < i) × (slice_get xs k ≡ Some x)) ⊎ ((k ≡ i) × (y ≡ x))
     ⊎ ((m : ℕ) × (k ≡ suc m) × (i ≤ m) × (slice_get xs m ≡ Some x))
 
-either : {A : Type 0} (xs : List A) (i : ℕ) (y : A) (k : ℕ) (x : A) → i ≤ length xs → slice_get (insert xs i y) k ≡ Some x
+either : {A : Type 0} (xs : List A) (i : ℕ) (y : A) (k : ℕ) (x : A) → i ≤ length xs
+    → slice_get (insert xs i y) k ≡ Some x
     → Either xs i y k x
 either xs zero y zero x fits e = inr (inl (refl, same_some e))
 either xs zero y (suc k) x fits e = inr (inr (k, refl, omega arith, e))
@@ -200,7 +201,8 @@ parted lines quotes n ordered i j d le within h = ⊎_elim
     let a = slice_index_or quotes i d in
     let c = slice_index_or quotes j d in
     let rises : a.number < c.number =
-    ordered.rising i j a c less (slice_get-get_or quotes i d (omega (arith, less, within))) (slice_get-get_or quotes j d within) in
+    ordered.rising i j a c less (slice_get-get_or quotes i d (omega (arith, less, within)))
+    (slice_get-get_or quotes j d within) in
     let low : c.number < n = as_less c.number n h in
     as_true a.number n (omega (arith, rises, low)))
     (same_or i j le)

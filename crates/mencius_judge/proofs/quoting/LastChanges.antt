@@ -83,8 +83,8 @@ module _ (line : Quote) (lines : NumberedLog) (order ids : List CommandId) (key 
   pub change_later : (q : Quote) → IsChange lines order key n q → IsChange (line ∷ lines) ids key n q
   change_later q h = (
     h.0,
-    same_change (held_by (commands_of (log_of lines) order) key) (held_by (commands_of (log_of (line ∷ lines)) ids) key) n
-        h.0 (λ k le. sym (agree k le)) h.1,
+    same_change (held_by (commands_of (log_of lines) order) key)
+        (held_by (commands_of (log_of (line ∷ lines)) ids) key) n h.0 (λ k le. sym (agree k le)) h.1,
     h.2,
     item h.0 h.1.within ∙ h.3,
     line_later (Submits h.2) line lines q h.4,

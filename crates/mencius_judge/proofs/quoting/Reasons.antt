@@ -18,15 +18,17 @@ use Rattle.mencius_judge.specs.Quotes.{IsChange, IsFirstGift, IsFirstLine, IsGif
 use Rattle.mencius_judge.specs.Rows.{count_of}
 use Rattle.mencius_judge.specs.Timelines.{IsBeginning, held_by}
 use Rattle.mencius_judge.specs.Violations.{IsAnswerAt, IsShownBy}
+use Rattle.mencius_judge.proofs.observations.HistorySteps.{whole_get}
+use Rattle.mencius_judge.proofs.observations.RowSteps.{still_item}
 use Rattle.mencius_judge.proofs.promises.Floors.{commands-length}
-use Rattle.mencius_judge.proofs.quoting.Fronts.{begins, front_commands, still_commands, still_known, taken_item, whole_item}
+use Rattle.mencius_judge.proofs.quoting.Fronts.{begins, front_commands, still_commands, still_known, taken_item}
 use Rattle.mencius_judge.proofs.quoting.LastChanges.{change_later, change_split, from_change, to_change}
 use Rattle.mencius_judge.proofs.quoting.Steps.{adds_own}
 use Rattle.mencius_judge.proofs.quoting.Tables.{at_most, sized}
 use Rattle.mencius_judge.proofs.sources.FirstLines.{line_later, line_split}
 use Rattle.mencius_judge.proofs.sources.Gifts.{gift_given, gift_later, gift_split, lead_later, lead_split}
 use Rattle.mencius_judge.proofs.sources.Grows.{executed}
-use Rattle.mencius_judge.proofs.sources.Places.{item_before, item_kept, item_within, same_some}
+use Rattle.mencius_judge.proofs.sources.Places.{item_before, item_within, same_some}
 
 -- a first line after a further line is that line or the first line before it
 module _ (P : Observation → Type 0) (line : Quote) (lines : NumberedLog) (q : Quote) where
@@ -74,7 +76,7 @@ module _ (judge : Judge) (n : NumberedLog) (line : Quote) (h : HasSeen judge n) 
   -- the place of an item of a history in the longest history
   in_order : (p place : ℕ) (id : CommandId) → slice_get (history w p) place ≡ Some id → slice_get order place ≡ Some id
   in_order p place id at =
-      whole_item (count_of judge.histories.places judge.histories.rows.items p) order place id
+      whole_get (count_of judge.histories.places judge.histories.rows.items p) order place id
       (ap (λ xs. slice_get xs place) (sym (h.log.histories.each p)) ∙ at)
 
   -- ---- what is known of a wrong reply
@@ -111,7 +113,7 @@ module _ (judge : Judge) (n : NumberedLog) (line : Quote) (h : HasSeen judge n) 
         within = begin.1;
         held_is =
             ap (value_at (key_of c.op)) (front_commands w order place (λ m x less e. h.log.order.known m x e)
-            ∙ sym (still_commands w o (take place order) (λ m x e. h.log.order.known m x (whole_item place order m x e)))
+            ∙ sym (still_commands w o (take place order) (λ m x e. h.log.order.known m x (whole_get place order m x e)))
             ∙ ap (commands_of (o ∷ w)) front_is)
             ∙ sym at.is;
         server = at.server;
@@ -124,8 +126,8 @@ module _ (judge : Judge) (n : NumberedLog) (line : Quote) (h : HasSeen judge n) 
     pub one_command : (id : CommandId) → Adds (line ∷ n) (IsFirstLine (Submits id) n) old new
         → Adds (line ∷ n) (IsReason (line ∷ n) (violation.OneCommand id)) old new
     one_command id =
-        adds_own (line ∷ n) (IsFirstLine (Submits id) n) (IsReason (line ∷ n) (violation.OneCommand id)) line old new own
-        (λ q r. line_later (Submits id) line n q r) (λ q r. line_or (Submits id) line n q r)
+        adds_own (line ∷ n) (IsFirstLine (Submits id) n) (IsReason (line ∷ n) (violation.OneCommand id)) line old new
+        own (λ q r. line_later (Submits id) line n q r) (λ q r. line_or (Submits id) line n q r)
 
     pub once : (server place : ℕ) (id : CommandId) → IsShownBy w o (violation.Once server place id)
         → Adds (line ∷ n) (IsGiftOf order server id n) old new
@@ -139,7 +141,7 @@ module _ (judge : Judge) (n : NumberedLog) (line : Quote) (h : HasSeen judge n) 
         let inside : slice_get (history w server) r.0 ≡ Some id = was_there r.0 r.1 (omega (arith, given)) in (
           r.0,
           omega (arith, given, shown.1),
-          ap (λ xs. slice_get xs r.0) grown ∙ item_kept (history w server) id r.0 id inside,
+          ap (λ xs. slice_get xs r.0) grown ∙ still_item (history w server) (id ∷ []) r.0 id inside,
           gift_later server r.0 line n q r.2,
         ))
         (λ q r. elim (gift_split server r.0 line n q r.3) [
@@ -191,25 +193,26 @@ module _ (judge : Judge) (n : NumberedLog) (line : Quote) (h : HasSeen judge n) 
             ⊎ IsFirstLine (Submits id) n q))
         from q (inl r) = elim (line_or (Submits id) line n q r) [ inl is ↦ inl is | inr t ↦ inr (inr (inr t)) ]
         from q (inr (inl r)) = elim (line_or (Submits behind) line n q r) [ inl is ↦ inl is | inr t ↦ inr (inl t) ]
-        from q (inr (inr r)) = elim (line_or (Replies behind) line n q r) [ inl is ↦ inl is | inr t ↦ inr (inr (inl t)) ]
+        from q (inr (inr r)) =
+            elim (line_or (Replies behind) line n q r) [ inl is ↦ inl is | inr t ↦ inr (inr (inl t)) ]
 
     pub one_reply : (id : CommandId) (expected found : Answer) → Adds (line ∷ n) (IsFirstLine (Replies id) n) old new
         → Adds (line ∷ n) (IsReason (line ∷ n) (violation.OneReply id expected found)) old new
     one_reply id expected found =
-        adds_own (line ∷ n) (IsFirstLine (Replies id) n) (IsReason (line ∷ n) (violation.OneReply id expected found)) line
-        old new own (λ q r. line_later (Replies id) line n q r) (λ q r. line_or (Replies id) line n q r)
+        adds_own (line ∷ n) (IsFirstLine (Replies id) n) (IsReason (line ∷ n) (violation.OneReply id expected found))
+        line old new own (λ q r. line_later (Replies id) line n q r) (λ q r. line_or (Replies id) line n q r)
 
     pub settled : (server : ℕ) (id : CommandId) → Adds (line ∷ n) (IsFirstLine (Replies id) n) old new
         → Adds (line ∷ n) (IsReason (line ∷ n) (violation.Settled server id)) old new
     settled server id =
-        adds_own (line ∷ n) (IsFirstLine (Replies id) n) (IsReason (line ∷ n) (violation.Settled server id)) line old new
-        own (λ q r. line_later (Replies id) line n q r) (λ q r. line_or (Replies id) line n q r)
+        adds_own (line ∷ n) (IsFirstLine (Replies id) n) (IsReason (line ∷ n) (violation.Settled server id)) line
+        old new own (λ q r. line_later (Replies id) line n q r) (λ q r. line_or (Replies id) line n q r)
 
     pub restore : (server source count : ℕ) → Adds (line ∷ n) (IsGift n server 0) old new
         → Adds (line ∷ n) (IsReason (line ∷ n) (violation.Restore server source count)) old new
     restore server source count =
-        adds_own (line ∷ n) (IsGift n server 0) (IsReason (line ∷ n) (violation.Restore server source count)) line old new
-        own (λ q r. gift_later server 0 line n q r) (λ q r. gift_or server 0 line n q r)
+        adds_own (line ∷ n) (IsGift n server 0) (IsReason (line ∷ n) (violation.Restore server source count)) line
+        old new own (λ q r. gift_later server 0 line n q r) (λ q r. gift_or server 0 line n q r)
 
     pub right_reply : (id : CommandId) (place : ℕ) (expected : Option (List ℕ)) (found : Answer) (c : Command)
         → IsWrongAt id place expected c → Adds (line ∷ n) (ShowsReply order id (key_of c.op) place n) old new
@@ -243,12 +246,14 @@ module _ (judge : Judge) (n : NumberedLog) (line : Quote) (h : HasSeen judge n) 
             → (q ≡ line) ⊎ ShowsReply order id (key_of c.op) place n q
         from q (inl r) = elim (line_or (Submits id) line n q r) [ inl is ↦ inl is | inr t ↦ inr (inl t) ]
         from q (inr (inl r)) = elim (line_or (Replies id) line n q r) [ inl is ↦ inl is | inr t ↦ inr (inr (inl t)) ]
-        from q (inr (inr (inl r))) = elim (lead_or place line n q r) [ inl is ↦ inl is | inr t ↦ inr (inr (inr (inl t))) ]
+        from q (inr (inr (inl r))) =
+            elim (lead_or place line n q r) [ inl is ↦ inl is | inr t ↦ inr (inr (inr (inl t))) ]
         from q (inr (inr (inr r))) =
             let one : r.2 ≡ c = same_some (sym r.3 ∙ now) in
             let change : IsChange (line ∷ n) (history (o ∷ w) r.0) (key_of c.op) place q =
             subst (λ (x : Command). IsChange (line ∷ n) (history (o ∷ w) r.0) (key_of x.op) place q) one r.4 in
-            elim (change_split line n order (history (o ∷ w) r.0) (key_of c.op) place h.log.order (same r.0 r.1) q change) [
+            elim (change_split line n order (history (o ∷ w) r.0) (key_of c.op) place h.log.order (same r.0 r.1) q
+            change) [
               | inl is ↦ inl is
               | inr t ↦ inr (inr (inr (inr t)))
             ]
@@ -323,7 +328,8 @@ module _ (judge : Judge) (n : NumberedLog) (line : Quote) (h : HasSeen judge n) 
               | inr first ↦ inr (inl (t.1, t.2, t.0, ap (λ xs. slice_get xs t.1) (sym (whole r.0 r.1)) ∙ t.3, first))
             ]
             by_kind (inr t) =
-                elim (change_split line n order (history (o ∷ w) r.0) key to h.log.order (ap (take to) (whole r.0 r.1)) q t) [
+                elim (change_split line n order (history (o ∷ w) r.0) key to h.log.order
+                (ap (take to) (whole r.0 r.1)) q t) [
                   | inl is ↦ inl is
                   | inr change ↦ inr (inr (from_change n order key to changed began_to q change))
                 ]

@@ -67,7 +67,8 @@ mapped f o none = ap (option_map f) none
 
 module _ (judge : Judge) (n : NumberedLog) (h : HasSeen judge n) where
   pub only_submission : (id : CommandId) (s : Submission) → id.number < number_count
-      → get nat_cmp judge.submissions (identity_key id) ≡ Some s → IsOnly (IsFirstLine (Submits id) n) n (submission_line s)
+      → get nat_cmp judge.submissions (identity_key id) ≡ Some s
+      → IsOnly (IsFirstLine (Submits id) n) n (submission_line s)
   only_submission id s small e = only_line (Submits id) n (submission_line s) (h.sources.submitted id s small e)
 
   pub not_submitted : (id : CommandId) → id.number < number_count
@@ -110,7 +111,8 @@ module _ (judge : Judge) (n : NumberedLog) (h : HasSeen judge n) where
         there = lead_contained place n (lead_line id lead) is;
       }
 
-  pub no_lead : (place : ℕ) → length judge.histories.order.items ≤ place → (other : Quote) → IsFirstGift n place other → ⊥
+  pub no_lead : (place : ℕ) → length judge.histories.order.items ≤ place → (other : Quote)
+      → IsFirstGift n place other → ⊥
   no_lead place past other is =
       let given = lead_given place n other h.log.were_restored is in
       let few = at_most is.server in
@@ -124,7 +126,8 @@ module _ (judge : Judge) (n : NumberedLog) (h : HasSeen judge n) where
       ∙ omega (arith, few)
 
   -- a server without a row has no commands, and the row of another server has the numbers of its lines
-  pub no_row : (p : ℕ) → row_of judge.histories.places judge.histories.rows.items p ≡ None → length (history (log_of n) p) ≡ 0
+  pub no_row : (p : ℕ) → row_of judge.histories.places judge.histories.rows.items p ≡ None
+      → length (history (log_of n) p) ≡ 0
   no_row p none = sized p ∙ ap count_in none
 
   pub row_size : (p : ℕ) (row : Row) → row_of judge.histories.places judge.histories.rows.items p ≡ Some row
@@ -135,7 +138,8 @@ module _ (judge : Judge) (n : NumberedLog) (h : HasSeen judge n) where
       → HasGifts n judge.histories.order.items p row
   row_gifts p row is = by_place (get nat_cmp judge.histories.places p) refl is
     where
-      by_place : (o : Option ℕ) → get nat_cmp judge.histories.places p ≡ o → row_at judge.histories.rows.items o ≡ Some row
+      by_place : (o : Option ℕ) → get nat_cmp judge.histories.places p ≡ o
+          → row_at judge.histories.rows.items o ≡ Some row
           → HasGifts n judge.histories.order.items p row
       by_place None at there = absurd (none_some there)
       by_place (Some k) at there = h.sources.given p k row at there
@@ -144,7 +148,8 @@ module _ (judge : Judge) (n : NumberedLog) (h : HasSeen judge n) where
 
   -- the place of a command's execution is its place in the longest history
   pub place_is : (id : CommandId) (x : Execution) → id.number < number_count
-      → get nat_cmp judge.executions (identity_key id) ≡ Some x → slice_get judge.histories.order.items x.place ≡ Some id
+      → get nat_cmp judge.executions (identity_key id) ≡ Some x
+      → slice_get judge.histories.order.items x.place ≡ Some id
   place_is id x small e =
       let inside : has_id judge.histories.order.items id ≡ true =
       sym (h.log.executions.all id small) ∙ ap is_some e in
@@ -156,7 +161,8 @@ module _ (judge : Judge) (n : NumberedLog) (h : HasSeen judge n) where
       ap (slice_get judge.histories.order.items) (same ∙ parts.3) ∙ place.2
 
   pub no_place : (id : CommandId) (place : ℕ) → id.number < number_count
-      → get nat_cmp judge.executions (identity_key id) ≡ None → slice_get judge.histories.order.items place ≡ Some id → ⊥
+      → get nat_cmp judge.executions (identity_key id) ≡ None
+      → slice_get judge.histories.order.items place ≡ Some id → ⊥
   no_place id place small none at =
       let there : has_id judge.histories.order.items id ≡ true = place_has judge.histories.order.items id place at in
       let absent : has_id judge.histories.order.items id ≡ false =

@@ -1,5 +1,5 @@
 -- The violating line and then its reasons are the quotes of a violation.
-use Rattle.std.proofs.Common.{◌≡◌, ◌⊎◌, inl, inr, List, [], ◌∷◌, refl, ⊎_elim}
+use Rattle.std.proofs.Common.{◌≡◌, inl, inr, List, [], ◌∷◌, refl, ⊎_elim}
 use Rattle.std.specs.List.{Contains}
 use Rattle.mencius_judge.specs.declared.quote.Quote.{Quote}
 use Rattle.mencius_judge.specs.declared.violation.Violation.{Violation}
@@ -23,7 +23,8 @@ module _ (line : Quote) (n : NumberedLog) (x : Violation) (own : List Quote) (in
   pub own_there : Contains own line
   own_there = first.1.added line refl
 
-  pub are_quotes : (quotes : List Quote) → Adds (line ∷ n) (IsReason (line ∷ n) x) own quotes → AreQuotes line n x quotes
+  pub are_quotes : (quotes : List Quote) → Adds (line ∷ n) (IsReason (line ∷ n) x) own quotes
+      → AreQuotes line n x quotes
   are_quotes quotes adds =
       let r = adds numbered first.0 in
       record {

@@ -17,12 +17,13 @@ use Rattle.mencius_judge.specs.Quotes.{IsFirstGift, IsFirstLine, IsGift, Numbere
 use Rattle.mencius_judge.specs.Rows.{IsAdded, IsAdvanced, IsFollowed, IsRow, Places, count_in, count_of, row_at, row_count}
 use Rattle.mencius_judge.specs.Sources.{AreSources, HasGifts, lead_line, reply_line, snapshot_count, snapshot_line, submission_line}
 use Rattle.mencius_judge.specs.Tables.{AreHistories, Replies, identity_key, number_count}
+use Rattle.mencius_judge.proofs.observations.RowSteps.{at_end, end_of}
 use Rattle.mencius_judge.proofs.promises.Identities.{get_here, get_there, id_cases}
 use Rattle.mencius_judge.proofs.sources.FirstLines.{line_here, line_later}
 use Rattle.mencius_judge.proofs.sources.Gifts.{gift_here, gift_later, lead_here, lead_later}
 use Rattle.mencius_judge.proofs.sources.Grows.{executed, restored}
 use Rattle.mencius_judge.proofs.sources.Missing.{no_reply, no_submission}
-use Rattle.mencius_judge.proofs.sources.Places.{item_before, item_either, item_last, item_there, item_within, none_some, same_some}
+use Rattle.mencius_judge.proofs.sources.Places.{item_before, item_there, item_within, none_some, same_some}
 
 -- the tables are empty before the first line
 pub sources_new : (order : List CommandId) (leads : List Lead) (places : Places) (rows : List Row)
@@ -199,7 +200,8 @@ module _ (lines : NumberedLog) (order : List CommandId) (leads : List Lead) (pla
         → (get nat_cmp places q ≡ Some n) × (slice_get rows n ≡ Some row)
     added_others p count snapshot numbers new_places new_rows added q n row other at there =
         let elsewhere : is_at (nat_cmp p) q ≡ false =
-        ⊎_elim (λ (e : is_at (nat_cmp p) q ≡ true). absurd (other (grind arith))) (λ (e : is_at (nat_cmp p) q ≡ false). e)
+        ⊎_elim (λ (e : is_at (nat_cmp p) q ≡ true). absurd (other (grind arith)))
+        (λ (e : is_at (nat_cmp p) q ≡ false). e)
         (cases_Bool (is_at (nat_cmp p) q)) in
         let was : get nat_cmp places q ≡ Some n = sym (added.place.2 q elsewhere) ∙ at in (
           was,
@@ -213,13 +215,14 @@ module _ (lines : NumberedLog) (order : List CommandId) (leads : List Lead) (pla
         (row : Row) → get nat_cmp new_places p ≡ Some n → slice_get new_rows n ≡ Some row → added.row ≡ row
     added_own p count snapshot numbers new_places new_rows added n row at there =
         let last : length rows ≡ n = same_some (sym added.place.1 ∙ at) in
-        same_some (sym (item_last rows added.row) ∙ ap (slice_get (rows ++ added.row ∷ [])) last
+        same_some (sym (end_of rows added.row) ∙ ap (slice_get (rows ++ added.row ∷ [])) last
         ∙ ap (λ xs. slice_get xs n) (sym added.rows_are) ∙ there)
 
     -- ---- a server executes a command
 
     module _ (number p : ℕ) (id : CommandId) (new_order : List CommandId)
-        (same : (k : ℕ) (x : CommandId) → k < length order → slice_get new_order k ≡ Some x → slice_get order k ≡ Some x)
+        (same : (k : ℕ) (x : CommandId) → k < length order → slice_get new_order k ≡ Some x
+        → slice_get order k ≡ Some x)
         (next : slice_get new_order (count_of places rows p) ≡ Some id) where
       abbrev execution : ℕ → CommandId → Quote
       execution m x = record { number = m; observation = Execute p x }
@@ -229,7 +232,8 @@ module _ (lines : NumberedLog) (order : List CommandId) (leads : List Lead) (pla
           let few = count_is p in
           let more : length (history (log_of (execution number id ∷ lines)) p) ≡ length (history (log_of lines) p) + 1 =
           ap length (executed (log_of lines) p id) ∙ length-append (history (log_of lines) p) (id ∷ []) in
-          gift_here p (count_of places rows p) (execution number id) lines (omega (arith, few)) (omega (arith, few, more))
+          gift_here p (count_of places rows p) (execution number id) lines (omega (arith, few))
+          (omega (arith, few, more))
 
       moved : (k m : ℕ) (a c : Quote) → k ≡ m → a ≡ c → IsGift (execution number id ∷ lines) p k a
           → IsGift (execution number id ∷ lines) p m c
@@ -242,7 +246,8 @@ module _ (lines : NumberedLog) (order : List CommandId) (leads : List Lead) (pla
           → slice_get new_order place ≡ Some x → IsGift (execution number id ∷ lines) p place (execution m x)
       newest place m x is line at =
           let command : id ≡ x = same_some (sym next ∙ ap (slice_get new_order) is ∙ at) in
-          moved (count_of places rows p) place (execution number id) (execution m x) is (ap₂ execution line command) gift
+          moved (count_of places rows p) place (execution number id) (execution m x) is
+          (ap₂ execution line command) gift
 
       begun : (row : Row) → get nat_cmp places p ≡ None → IsRow 1 None (number ∷ []) row
           → HasGifts (execution number id ∷ lines) new_order p row
@@ -254,7 +259,7 @@ module _ (lines : NumberedLog) (order : List CommandId) (leads : List Lead) (pla
             omega (arith, count, snapshot, size);
         taken = λ s n e less. absurd (none_some (sym is.snapshot_is ∙ e));
         executed = λ n m x there at.
-            let only = item_either [] number n m (ap (λ xs. slice_get xs n) (sym is.lines_are) ∙ there) in
+            let only = at_end [] number n m (ap (λ xs. slice_get xs n) (sym is.lines_are) ∙ there) in
             ⊎_elim (λ (r : slice_get [] n ≡ Some m). absurd (none_some r))
             (λ (r : (n ≡ 0) × (number ≡ m)).
             let zero_is = none_is p none in
@@ -274,7 +279,8 @@ module _ (lines : NumberedLog) (order : List CommandId) (leads : List Lead) (pla
             let before = was.count in
             omega (arith, count, snapshot, longer, before);
         taken = λ s n e less.
-            gift_later p n (execution number id) lines (snapshot_line p s) (was.taken s n (sym is.snapshot_is ∙ e) less);
+            gift_later p n (execution number id) lines (snapshot_line p s)
+            (was.taken s n (sym is.snapshot_is ∙ e) less);
         executed = λ n m x there at.
             let snapshot = ap snapshot_count is.snapshot_is in
             let before = was.count in
@@ -291,7 +297,7 @@ module _ (lines : NumberedLog) (order : List CommandId) (leads : List Lead) (pla
             (was.executed n m x r known)))
             (λ (r : (n ≡ length old.lines.items) × (number ≡ m)).
             newest (snapshot_count row.snapshot + n) m x (omega (arith, count_old, before, snapshot, r.0)) r.1 at)
-            (item_either old.lines.items number n m (ap (λ xs. slice_get xs n) (sym is.lines_are) ∙ there));
+            (at_end old.lines.items number n m (ap (λ xs. slice_get xs n) (sym is.lines_are) ∙ there));
       }
 
       followed : (new_places : Places) (new_rows : List Row) → IsFollowed number p places rows new_places new_rows
@@ -311,7 +317,8 @@ module _ (lines : NumberedLog) (order : List CommandId) (leads : List Lead) (pla
           }
           by_place (Some n) is (same_places, step) = record {
             own = λ m row at there.
-                let place : n ≡ m = same_some (sym is ∙ ap (λ (ps : Places). get nat_cmp ps p) (sym same_places) ∙ at) in
+                let place : n ≡ m =
+                same_some (sym is ∙ ap (λ (ps : Places). get nat_cmp ps p) (sym same_places) ∙ at) in
                 let old = item_there rows n (within p n is) in
                 let new = step.own old.0 old.1 in
                 let one : new.0 ≡ row = same_some (sym new.1 ∙ ap (slice_get new_rows) place ∙ there) in
@@ -336,7 +343,8 @@ module _ (lines : NumberedLog) (order : List CommandId) (leads : List Lead) (pla
     sources_after_follow number p id new_places new_rows next f =
         let line : Quote = record { number = number; observation = Execute p id } in
         let quiet = sources_quiet line in
-        let keep : (k : ℕ) (x : CommandId) → k < length order → slice_get order k ≡ Some x → slice_get order k ≡ Some x =
+        let keep : (k : ℕ) (x : CommandId) → k < length order → slice_get order k ≡ Some x
+        → slice_get order k ≡ Some x =
         λ k x less at. at in
         record {
           submitted = quiet.submitted;
@@ -359,7 +367,7 @@ module _ (lines : NumberedLog) (order : List CommandId) (leads : List Lead) (pla
         let few = histories.within p in
         let place : length order ≡ count_of places rows p = omega (arith, last, few) in
         let next : slice_get (order ++ id ∷ []) (count_of places rows p) ≡ Some id =
-        ap (slice_get (order ++ id ∷ [])) (sym place) ∙ item_last order id in
+        ap (slice_get (order ++ id ∷ [])) (sym place) ∙ end_of order id in
         record {
           submitted = quiet.submitted;
           replied = quiet.replied;
@@ -372,16 +380,18 @@ module _ (lines : NumberedLog) (order : List CommandId) (leads : List Lead) (pla
               (λ (e : (n ≡ length order) × (id ≡ x)).
               let all = h.all in
               let at_end : slice_get (leads ++ lead ∷ []) n ≡ Some lead =
-              ap (slice_get (leads ++ lead ∷ [])) (e.0 ∙ sym all) ∙ item_last leads lead in
+              ap (slice_get (leads ++ lead ∷ [])) (e.0 ∙ sym all) ∙ end_of leads lead in
               let own : lead ≡ l = same_some (sym at_end ∙ there) in
               subst (λ (q : Quote). IsFirstGift (line ∷ lines) n q) (ap₂ lead_line e.1 own)
               (lead_here n line lines p
               (λ q. let size_q = count_is q in let few_q = histories.within q in omega (arith, e.0, size_q, few_q))
               (let size_p = count_is p in
-              let more = ap length (executed (log_of lines) p id) ∙ length-append (history (log_of lines) p) (id ∷ []) in
+              let more = ap length (executed (log_of lines) p id)
+              ∙ length-append (history (log_of lines) p) (id ∷ []) in
               omega (arith, e.0, size_p, more, place))))
-              (item_either order id n x at);
-          given = with_row line (order ++ id ∷ []) p new_places new_rows (λ k x less at. item_before order id k x less at)
+              (at_end order id n x at);
+          given = with_row line (order ++ id ∷ []) p new_places new_rows
+              (λ k x less at. item_before order id k x less at)
               (followed number p id (order ++ id ∷ []) (λ k x less at. item_before order id k x less at) next new_places
               new_rows f);
         }
@@ -398,7 +408,8 @@ module _ (lines : NumberedLog) (order : List CommandId) (leads : List Lead) (pla
         ⊎_elim (λ (e : count ≡ 0).
         let kept = zero_is e in
         subst (λ (ps : Places). AreSources (line ∷ lines) order leads ps new_rows submissions replies) (sym kept.0)
-        (subst (λ (rs : List Row). AreSources (line ∷ lines) order leads places rs submissions replies) (sym kept.1) quiet))
+        (subst (λ (rs : List Row). AreSources (line ∷ lines) order leads places rs submissions replies) (sym kept.1)
+        quiet))
         (λ (e : count ≢ 0). with_added (some e))
         (cases_eq count 0)
       where
@@ -444,7 +455,8 @@ module _ (lines : NumberedLog) (order : List CommandId) (leads : List Lead) (pla
           given = with_row line order p new_places new_rows (λ k x less at. at) (record {
             own = λ n row at there.
                 subst (λ (r : Row). HasGifts (line ∷ lines) order p r)
-                (added_own p count (Some snapshot) [] new_places new_rows added n row at there) (own added.row added.is);
+                (added_own p count (Some snapshot) [] new_places new_rows added n row at there)
+                (own added.row added.is);
             others = added_others p count (Some snapshot) [] new_places new_rows added;
           });
         }

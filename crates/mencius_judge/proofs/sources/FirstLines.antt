@@ -57,7 +57,8 @@ module _ (P : Observation → Type 0) where
   line_unique (line ∷ lines) a c h k =
       by_cases (λ f g. line_unique lines a c f g) (line_split P line lines a h) (line_split P line lines c k)
     where
-      by_cases : (IsFirstLine P lines a → IsFirstLine P lines c → a ≡ c) → IsLineOf P line lines a → IsLineOf P line lines c
+      by_cases : (IsFirstLine P lines a → IsFirstLine P lines c → a ≡ c) → IsLineOf P line lines a
+          → IsLineOf P line lines c
           → a ≡ c
       by_cases before (inl f) (inl g) = f.0 ∙ sym g.0
       by_cases before (inl f) (inr g) = absurd (f.1 c (line_contained lines c g) g.passes)

@@ -137,7 +137,8 @@ module _ (n : ℕ) where
       ≤ length (history (log_of (h.later ++ q ∷ h.earlier)) h.server) =
       longer_rest h.later (q ∷ h.earlier) h.server
       (subst (λ (xs : NumberedLog). WereRestored (log_of xs)) h.are restored) in
-      let size : length (history (log_of lines) h.server) ≡ length (history (log_of (h.later ++ q ∷ h.earlier)) h.server) =
+      let size : length (history (log_of lines) h.server)
+      ≡ length (history (log_of (h.later ++ q ∷ h.earlier)) h.server) =
       ap (λ (xs : NumberedLog). length (history (log_of xs) h.server)) h.are in
       let after = h.after in
       omega (arith, more, size, after)

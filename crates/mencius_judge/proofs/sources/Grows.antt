@@ -44,13 +44,15 @@ longer (Restore server source count) w p h = by_test (eqb server p) refl
     by_test : (d : Bool) → eqb server p ≡ d
         → length (history w p) ≤ length (cond d (take count (history w source)) (history w p))
     by_test true e =
-        let none : length (history w p) ≡ 0 = ap (λ q. length (history w q)) (sym (eqb-true server p e)) ∙ ap length h.0 in
+        let none : length (history w p) ≡ 0 = ap (λ q. length (history w q)) (sym (eqb-true server p e))
+        ∙ ap length h.0 in
         omega (arith, none)
     by_test false e = omega arith
 
 -- ---- many more lines
 
-pub restored_rest : (later earlier : NumberedLog) → WereRestored (log_of (later ++ earlier)) → WereRestored (log_of earlier)
+pub restored_rest : (later earlier : NumberedLog) → WereRestored (log_of (later ++ earlier))
+    → WereRestored (log_of earlier)
 restored_rest [] earlier h = h
 restored_rest (line ∷ later) earlier h =
     restored_rest later earlier (restored_before line.observation (log_of (later ++ earlier)) h)

@@ -14,7 +14,8 @@ none_known : {X : Type 0} (o : Option X) → o ≡ None → is_some o ≡ true �
 none_known None e known = cc
 none_known (Some x) e known = cc
 
-pub no_submission : (lines : NumberedLog) (id : CommandId) → command_of (log_of lines) id ≡ None → HasNoLine (Submits id) lines
+pub no_submission : (lines : NumberedLog) (id : CommandId) → command_of (log_of lines) id ≡ None
+    → HasNoLine (Submits id) lines
 no_submission lines id none other inside is =
     let there : Contains (log_of lines) (Submit is.0) =
     subst (Contains (log_of lines)) is.1 (contains_map (λ (q : Quote). q.observation) lines other inside) in
@@ -23,7 +24,8 @@ no_submission lines id none other inside is =
     (command_known (log_of lines) is.0 there) in
     none_known (command_of (log_of lines) id) none known
 
-pub no_reply : (lines : NumberedLog) (id : CommandId) → reply_of (log_of lines) id ≡ None → HasNoLine (IsReplyTo id) lines
+pub no_reply : (lines : NumberedLog) (id : CommandId) → reply_of (log_of lines) id ≡ None
+    → HasNoLine (IsReplyTo id) lines
 no_reply lines id none other inside is =
     let there : Contains (log_of lines) (Reply id is.0) =
     subst (Contains (log_of lines)) is.1 (contains_map (λ (q : Quote). q.observation) lines other inside) in

@@ -1,7 +1,8 @@
 -- Items and places of lists.
-use Rattle.std.proofs.Common.{◌≡◌, ◌⊎◌, inl, inr, ℕ, zero, suc, ◌<◌, List, [], ◌∷◌, ◌++◌, Option, Some, None, length, map, slice_get, arith, refl, ap, ⊎_elim, ◌≤◌, subst, get_or, sym, ◌∙◌}
+use Rattle.std.proofs.Common.{◌≡◌, inl, inr, ℕ, zero, suc, ◌<◌, List, [], ◌∷◌, ◌++◌, Option, Some, None, length, map, slice_get, arith, refl, ap, ⊎_elim, ◌≤◌, subst, get_or, sym, ◌∙◌}
 use Rattle.std.specs.List.{Contains}
 use Rattle.std.proofs.lemmas.Option.{slice_get-get_or, slice_get_within}
+use Rattle.mencius_judge.proofs.observations.RowSteps.{at_end}
 use Rattle.mencius_judge.proofs.promises.Logs.{contains_cons, contains_here, contains_later, contains_none}
 
 pub same_some : {A : Type 0} {x y : A} → ◌≡◌ {A = Option A} (Some x) (Some y) → x ≡ y
@@ -24,32 +25,13 @@ not_empty e = cc
 pub item_within : {A : Type 0} (xs : List A) (i : ℕ) (x : A) → slice_get xs i ≡ Some x → i < length xs
 item_within xs i x e = slice_get_within xs i x e
 
-pub item_kept : {A : Type 0} (xs : List A) (y : A) (i : ℕ) (x : A) → slice_get xs i ≡ Some x
-    → slice_get (xs ++ y ∷ []) i ≡ Some x
-item_kept [] y i x e = absurd (cc)
-item_kept (z ∷ xs) y zero x e = e
-item_kept (z ∷ xs) y (suc i) x e = item_kept xs y i x e
-
-pub item_last : {A : Type 0} (xs : List A) (y : A) → slice_get (xs ++ y ∷ []) (length xs) ≡ Some y
-item_last [] y = refl
-item_last (z ∷ xs) y = item_last xs y
-
-pub item_either : {A : Type 0} (xs : List A) (y : A) (i : ℕ) (x : A) → slice_get (xs ++ y ∷ []) i ≡ Some x
-    → (slice_get xs i ≡ Some x) ⊎ ((i ≡ length xs) × (y ≡ x))
-item_either [] y zero x e = inr (refl, same_some e)
-item_either [] y (suc i) x e = absurd (none_some e)
-item_either (z ∷ xs) y zero x e = inl e
-item_either (z ∷ xs) y (suc i) x e =
-    ⊎_elim (λ (r : slice_get xs i ≡ Some x). inl r) (λ (r : (i ≡ length xs) × (y ≡ x)). inr (ap suc r.0, r.1))
-    (item_either xs y i x e)
-
 -- a place before the last one has the same item in the shorter list
 pub item_before : {A : Type 0} (xs : List A) (y : A) (i : ℕ) (x : A) → i < length xs
     → slice_get (xs ++ y ∷ []) i ≡ Some x → slice_get xs i ≡ Some x
 item_before xs y i x less e =
     ⊎_elim (λ (r : slice_get xs i ≡ Some x). r)
     (λ (r : (i ≡ length xs) × (y ≡ x)). absurd (omega (arith, r.0, less)))
-    (item_either xs y i x e)
+    (at_end xs y i x e)
 
 pub item_there : {A : Type 0} (xs : List A) (i : ℕ) → i < length xs → (x : A) × (slice_get xs i ≡ Some x)
 item_there [] i less = absurd (omega arith)

@@ -1,4 +1,4 @@
-use Rattle.std.proofs.Common.{◌≡◌, ◌≢◌, ◌≤◌, true, false, List, Some, None, arith, rules, length, slice_get, sym, subst, ap, ◌∙◌}
+use Rattle.std.proofs.Common.{◌≡◌, ◌≢◌, ◌≤◌, true, false, List, Some, None, arith, rules, length, slice_get, sym, subst, ap, ◌∙◌, ℕ}
 use Rattle.std.proofs.lemmas.List.Sorted.{IsPartitionPoint-from_clause}
 use Rattle.std.proofs.lemmas.Option.{slice_get-get_or, slice_get_past}
 use Rattle.std.specs.List.Sorted.{IsPartitionPoint, IsPartitionedBy}
@@ -8,6 +8,11 @@ use Rattle.mencius_judge.proofs.quoting.Inserted.{before_place, behind_place, in
 use Rattle.mencius_judge.proofs.sources.Places.{none_some, same_some}
 use Rattle.mencius_judge.proofs.quote.insert_quote.Goals as goal
 use Rattle.mencius_judge.proofs.quote.insert_quote.Goals.{in-Some+else-other-quote, in_default}
+
+-- the quotes before the place have lower numbers, and the others do not
+abbrev IsPlaceOf : ℕ → List Quote → ℕ → Type 0
+IsPlaceOf n quotes place =
+    IsPartitionPoint (λ q. is_before n q ≡ true) (λ q. is_before n q ≡ false) quotes place
 
 pub returns-then-other-quote : goal.returns-then-other-quote
 returns-then-other-quote c lines inside numbered ordered =
@@ -27,8 +32,8 @@ returns c lines inside numbered ordered =
     let parts : IsPartitionedBy (is_before quote.number) c.as_slice.result.now =
     subst (IsPartitionedBy (is_before quote.number)) (sym c.as_slice.ensures.value)
     (parted lines quotes quote.number ordered) in
-    let point : IsPartitionPoint (λ q. is_before quote.number q ≡ true) (λ q. is_before quote.number q ≡ false) quotes place =
-    subst (λ (xs : List Quote). IsPartitionPoint (λ q. is_before quote.number q ≡ true) (λ q. is_before quote.number q ≡ false) xs place)
+    let point : IsPlaceOf quote.number quotes place =
+    subst (λ (xs : List Quote). IsPlaceOf quote.number xs place)
     c.as_slice.ensures.value
     (IsPartitionPoint-from_clause (is_before quote.number) _ _ c.partition_point-place.ensures.partitioned
     parts (λ a r q k. search rules)) in

@@ -38,8 +38,8 @@ returns-in-SameOrder c =
     let new = c.quote_lead.new.quotes.items in
     on_ok c.quote_lead.result (λ step n line h breaks own.
     subst (λ (v : Violation). Adds (line ∷ n) (IsReason (line ∷ n) v) old new) (sym c.in-SameOrder.is)
-    (same_order j n line h old new own c.in-SameOrder.server c.in-SameOrder.place c.in-SameOrder.expected c.in-SameOrder.found
-    (step n line h)))
+    (same_order j n line h old new own c.in-SameOrder.server c.in-SameOrder.place c.in-SameOrder.expected
+    c.in-SameOrder.found (step n line h)))
     c.quote_lead.ensures
 
 pub returns-in_ok-quote_reply-in-RealTime : goal.returns-in_ok-quote_reply-in-RealTime
@@ -85,8 +85,8 @@ returns-in-RightReply c =
     let shown = subst (λ (x : Violation). IsShownBy (log_of n) line.observation x) c.in-RightReply.is breaks.0 in
     let wrong = wrong_at j n line h c.in-RightReply.id c.in-RightReply.place c.in-RightReply.expected shown.1 shown.2 in
     subst (λ (x : Violation). Adds (line ∷ n) (IsReason (line ∷ n) x) old new) (sym c.in-RightReply.is)
-    (right_reply j n line h old new own c.in-RightReply.id c.in-RightReply.place c.in-RightReply.expected c.in-RightReply.found
-    shown.1 wrong (step n line shown.1 h wrong.known wrong.within wrong.held_is)))
+    (right_reply j n line h old new own c.in-RightReply.id c.in-RightReply.place c.in-RightReply.expected
+    c.in-RightReply.found shown.1 wrong (step n line shown.1 h wrong.known wrong.within wrong.held_is)))
     c.quote_wrong_reply.ensures
 
 pub returns-in_ok-quote_last-in-RightLookup : goal.returns-in_ok-quote_last-in-RightLookup

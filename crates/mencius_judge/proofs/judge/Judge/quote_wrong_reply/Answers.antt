@@ -6,7 +6,7 @@ use Rattle.mencius_model.specs.KeyMap.{key_of}
 use Rattle.mencius_judge.specs.Added.{IsLastOf}
 use Rattle.mencius_judge.specs.Log.{commands_of}
 use Rattle.mencius_judge.specs.Quotes.{IsChange, IsFirstGift, IsFirstLine, Replies, Submits, log_of}
-use Rattle.mencius_judge.specs.Tables.{identity_key, number_count}
+use Rattle.mencius_judge.specs.Tables.{number_count}
 use Rattle.mencius_judge.specs.Timelines.{IsBeginning, held_by}
 use Rattle.mencius_judge.proofs.keys.TextMaps.{on_ok}
 use Rattle.mencius_judge.proofs.observations.Steps.{row_found}
@@ -32,7 +32,8 @@ returns c =
     let small : id.number < number_count = omega arith in
     let found = ap (get nat_cmp j.submissions) (sym c.identity_key.ensures) ∙ sym c.in-Some.ensures.value in
     on_ok c.quote_last.result (λ step n line d h is fits held.
-    let one : row.command ≡ d = same_some (sym (row_found (log_of n) j.submissions h.log.submissions id row small found) ∙ is) in
+    let one : row.command ≡ d =
+    same_some (sym (row_found (log_of n) j.submissions h.log.submissions id row small found) ∙ is) in
     let key : c.key_of-key.result.now ≡ key_of d.op =
     c.key_of-key.ensures ∙ ap key_of (c.op.ensures.op ∙ ap (λ (x : Command). x.op) one) in
     let began : IsBeginning (held_by (commands_of (log_of n) order) (key_of d.op)) place changed =
