@@ -97,7 +97,7 @@ fn see_line(
 // Passes the lines to a judge, up to the first line that breaks a promise. The lines have the numbers from `first` on.
 fn see(alloc: Global, judge: &mut Judge, first: u64, lines: &str) -> Result<Found, Fail> {
     for (place, line) in lines.split('\n').enumerate() {
-        if let Some(promise) = see_line(alloc, judge, first + place as u64, line)? {
+        if let Some(promise) = see_line(alloc, judge, first.wrapping_add(place as u64), line)? {
             return Ok(Some((place, promise)));
         }
     }
