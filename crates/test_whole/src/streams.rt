@@ -140,7 +140,7 @@ const WHOLE: Options = Options {
 
 const LOG: &str = "submit 1.0 set a x\nexecute 0 1.0\nreply 1.0 none\n";
 
-const VERDICT: &str = "ok servers 1 commands 1 executed 1 replies 1 open 0 lookups 0\n";
+const VERDICT: &str = "ok servers 1 commands 1 executed 1 replies 1 open 0 lookups 0 shortest 1\n";
 
 // The calls that read, each with its input and its output.
 const READS: [(Call, &str, &str); 5] = [
