@@ -106,8 +106,15 @@ function isOpen() {
   return !input.isFile() && !input.isDirectory();
 }
 
+// Whether this answer is final. Later lines can change `ok` and `unjudged`, but not a broken promise, a bad line or a lack
+// of memory.
+function isFinal({ status, printed }) {
+  const start = Buffer.from(printed.slice(0, 32)).toString('latin1');
+  return status > 1 || /^(?:violation |{"verdict":"violation")/.test(start);
+}
+
 // Judges a log while it arrives. It repeatedly judges all whole lines that have arrived. After each judgement, it pauses
-// for as long as the judgement took. A broken promise or a bad line is final, because later lines do not change it.
+// for as long as the judgement took.
 function judgeAsItComes(args) {
   let log = Buffer.allocUnsafe(65_536), length = 0, pause = 0, timer;
   return new Promise(resolve => {
@@ -119,7 +126,7 @@ function judgeAsItComes(args) {
       const begin = performance.now();
       const answer = mencius(args, log.subarray(0, end));
       pause = performance.now() - begin;
-      if (isWhole || answer.status !== 0) resolve(tell(answer));
+      if (isWhole || isFinal(answer)) resolve(tell(answer));
     };
     process.stdin.on('data', part => {
       if (length + part.length >= MOST_OF_A_LOG) return resolve(failed('26 NoMemory', 5));
