@@ -1,5 +1,5 @@
 -- The sentence that says what a violation expects, and why.
-use Rattle.std.specs.Prelude.{ℕ, List, [], ◌++◌, codes, decimal, Option}
+use Rattle.std.specs.Prelude.{ℕ, ◌==◌, List, [], ◌++◌, if◌then◌else◌, codes, decimal, Option}
 use Rattle.mencius_base.specs.declared.command.CommandId.{CommandId}
 use Rattle.mencius_format.specs.Texts.{id_text}
 use Rattle.mencius_judge.specs.declared.observation.Answer.{Answer}
@@ -35,16 +35,24 @@ reply_sentence id place text Failed =
 abbrev pub restore_sentence : ℕ → ℕ → ℕ → List ℕ
 restore_sentence server source count =
     server_text server ++ (codes " can take over " ++ (decimal count
-    ++ (codes " commands only if it has executed nothing and server " ++ (decimal source
-    ++ codes " has executed that many; such a line is usually a fault of the log, because a server that starts anew takes a new number."))))
+    ++ (codes " of the commands of server " ++ (decimal source
+    ++ (codes " only if it has executed nothing and server " ++ (decimal source
+    ++ codes " has that many. Such a line is usually a fault of the log. A server that starts anew takes a new number."))))))
+
+-- the words for the numbers of commands from `from` to `to`
+abbrev pub range_text : ℕ → ℕ → List ℕ
+range_text from to =
+    if from == to then codes "exactly " ++ decimal from else decimal from ++ (codes " to " ++ decimal to)
+
+-- the reason why a reader must see the first n commands, if there are any
+abbrev pub floor_text : ℕ → List ℕ
+floor_text n = if n == 0 then [] else codes ", because it saw or was told of the first " ++ decimal n
 
 -- the sentence for a lookup that found a text after none of these numbers of commands
 abbrev pub lookup_sentence : ℕ → List ℕ → ℕ → ℕ → List ℕ
 lookup_sentence reader key from to =
     codes "Reader " ++ (decimal reader ++ (codes " must find a text that " ++ (key ++ (codes " held after "
-    ++ (decimal from ++ (codes " to " ++ (decimal to
-    ++ (codes " of the executed commands, because the reader has already seen the first "
-    ++ (decimal from ++ codes ".")))))))))
+    ++ (range_text from to ++ (codes " of the executed commands" ++ (floor_text from ++ codes ".")))))))
 
 -- the sentence for a reply that differs from the first one
 abbrev pub one_reply_sentence : CommandId → Answer → List ℕ

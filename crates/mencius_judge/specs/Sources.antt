@@ -10,7 +10,9 @@ use Rattle.mencius_judge.specs.declared.histories.Snapshot.{Snapshot}
 use Rattle.mencius_judge.specs.declared.judge.FirstReply.{FirstReply}
 use Rattle.mencius_judge.specs.declared.judge.Submission.{Submission}
 use Rattle.mencius_judge.specs.declared.observation.Observation.TheVariants.{Submit, Execute, Reply, Restore}
+use Rattle.mencius_judge.specs.declared.places.Places.{Places}
 use Rattle.mencius_judge.specs.declared.quote.Quote.{Quote}
+use Rattle.mencius_judge.specs.Rows.{server_place}
 use Rattle.mencius_judge.specs.Quotes.{IsFirstGift, IsFirstLine, IsGift, NumberedLog, Replies as IsReplyTo, Submits}
 use Rattle.mencius_judge.specs.Tables.{Replies, identity_key, number_count}
 
@@ -44,7 +46,7 @@ pub record HasGifts (lines : NumberedLog) (order : List CommandId) (p : ServerId
       → IsGift lines p (snapshot_count row.snapshot + n) (record { number = number; observation = Execute p id })
 
 -- the numbers of lines that are kept are those of the log
-pub record AreSources (lines : NumberedLog) (order : List CommandId) (leads : List Lead) (places : BTreeMap ℕ ℕ)
+pub record AreSources (lines : NumberedLog) (order : List CommandId) (leads : List Lead) (places : Places)
     (rows : List Row) (submissions : BTreeMap ℕ Submission) (replies : Replies) : Type 0 where
   pub submitted : (id : CommandId) (s : Submission) → id.number < number_count
       → get nat_cmp submissions (identity_key id) ≡ Some s → IsFirstLine (Submits id) lines (submission_line s)
@@ -53,5 +55,5 @@ pub record AreSources (lines : NumberedLog) (order : List CommandId) (leads : Li
   pub all : length leads ≡ length order
   pub led : (n : ℕ) (id : CommandId) (lead : Lead) → slice_get order n ≡ Some id → slice_get leads n ≡ Some lead
       → IsFirstGift lines n (lead_line id lead)
-  pub given : (p : ServerId) (n : ℕ) (row : Row) → get nat_cmp places p ≡ Some n → slice_get rows n ≡ Some row
+  pub given : (p : ServerId) (n : ℕ) (row : Row) → server_place places p ≡ Some n → slice_get rows n ≡ Some row
       → HasGifts lines order p row

@@ -6,7 +6,7 @@ use Rattle.mencius_base.specs.Numbers.{ServerId}
 use Rattle.mencius_base.specs.declared.command.Command.{Command}
 use Rattle.mencius_base.specs.declared.command.CommandId.{CommandId}
 use Rattle.mencius_base.specs.declared.command.Op.{Op}
-use Rattle.mencius_judge.specs.Rows.{Places, count_of, row_count}
+use Rattle.mencius_judge.specs.Rows.{count_of, row_count, server_place}
 use Rattle.mencius_judge.specs.declared.histories.Row.{Row}
 use Rattle.mencius_judge.specs.declared.histories.Next.{Next}
 use Rattle.mencius_judge.specs.declared.histories.Next.TheVariants.{Follows, Differs, Leads}
@@ -15,6 +15,7 @@ use Rattle.mencius_judge.specs.declared.judge.FirstReply.{FirstReply}
 use Rattle.mencius_judge.specs.declared.judge.Submission.{Submission}
 use Rattle.mencius_judge.specs.declared.observation.Answer.{Answer}
 use Rattle.mencius_judge.specs.declared.observation.Observation.TheVariants.{Reply}
+use Rattle.mencius_judge.specs.declared.places.Places.{Places}
 use Rattle.mencius_model.specs.KeyMap.{out}
 use Rattle.mencius_judge.specs.Answers.{IsRight}
 use Rattle.mencius_judge.specs.Counts.{lengths_of}
@@ -42,8 +43,8 @@ pub record AreHistories (w : Log) (order : List CommandId) (places : Places) (ro
   pub within : (p : ServerId) → count_of places rows p ≤ length order
   pub some : (q : ServerId) × (order ≡ history w q)
   pub lengths : map row_count rows ≡ lengths_of w
-  pub there : (p : ServerId) (n : ℕ) → get nat_cmp places p ≡ Some n → slice_get (servers_of w) n ≡ Some p
-  pub known : (p : ServerId) → history w p ≢ [] → IsSome (get nat_cmp places p)
+  pub there : (p : ServerId) (n : ℕ) → server_place places p ≡ Some n → slice_get (servers_of w) n ≡ Some p
+  pub known : (p : ServerId) → history w p ≢ [] → IsSome (server_place places p)
 
 -- the facts about the longest history that every prefix of it shares
 pub record IsOrder (w : Log) (order : List CommandId) : Type 0 where

@@ -1,14 +1,12 @@
 ghost use Rattle.std.specs.Prelude.{◌≡◌, ◌≢◌, ℕ, [], ◌∷◌, ◌++◌, Some, None, IfOk, MatchOption, OnOk, length, map};
-ghost use Rattle.std.specs.BTreeMap.{Updates, get};
-ghost use Rattle.std.specs.Ordering.{nat_cmp};
 ghost use Rattle.mencius_judge.specs.Counts.{least_of};
-ghost use Rattle.mencius_judge.specs.Rows.{IsAdded, IsAdvanced, IsFollowed, count_of, row_count, row_of};
+ghost use Rattle.mencius_judge.specs.Rows.{IsAdded, IsAdvanced, IsFollowed, IsPlaced, count_of, row_count, row_of, server_place};
 ghost use Rattle.mencius_judge.specs.Tables.{IsNext};
 
 use crate::counts::one_more_command;
+use crate::places::Places;
 use mencius_base::{CommandId, NoMemory};
 use std::alloc::Global;
-use std::collections::BTreeMap;
 
 /// How the next command of a server compares with the commands that other servers executed.
 #[derive(Clone, Copy, Debug, PartialEq, Eq)]
@@ -55,25 +53,25 @@ pub struct Histories {
     // The first execution at each place of `order`.
     pub leads: Vec<Lead>,
     // The place of each server that has a history in `rows`. The rows are in the order in which the servers got it.
-    pub places: BTreeMap<u64, usize>,
+    pub places: Places,
     pub rows: Vec<Row>,
 }
 
 impl Histories {
     /// Creates the histories of servers that have executed nothing.
-    pub fn new(alloc: Global) -> Histories
-        ensures order { result.order.items ≡ [] }
-        ensures leads { result.leads.items ≡ [] }
-        ensures places { (p : ℕ) → get nat_cmp result.places p ≡ None }
-        ensures rows { result.rows.items ≡ [] }
+    pub fn new(alloc: Global) -> Result<Histories, NoMemory>
+        ensures order { IfOk result (λ h. h.order.items ≡ []) }
+        ensures leads { IfOk result (λ h. h.leads.items ≡ []) }
+        ensures places { IfOk result (λ h. (p : ℕ) → server_place h.places p ≡ None) }
+        ensures rows { IfOk result (λ h. h.rows.items ≡ []) }
     {
-        Histories {
+        Ok(Histories {
             alloc,
             order: Vec::new(alloc),
             leads: Vec::new(alloc),
-            places: BTreeMap::new(alloc),
+            places: Places::new(alloc)?,
             rows: Vec::new(alloc),
-        }
+        })
     }
 
     /// Returns how this command would compare if the server executed it next.
@@ -92,10 +90,8 @@ impl Histories {
         ensures { MatchOption result (row_of self.now.places self.now.rows.items server ≡ None)
             (λ row. row_of self.now.places self.now.rows.items server ≡ Some row.now) }
     {
-        match self.places.get(&u64::from(server)) {
-            Some(place) => self.rows.get(*place),
-            None => None,
-        }
+        let place = self.places.get(server)?;
+        self.rows.get(place)
     }
 
     /// Returns the number of commands that a server has.
@@ -141,8 +137,8 @@ impl Histories {
         ensures rows { OnOk result (IsFollowed line server self.old.places self.old.rows.items
             self.new.places self.new.rows.items) }
     {
-        match self.places.get(&u64::from(server)) {
-            Some(place) => advance(&mut self.rows, *place, line),
+        match self.places.get(server) {
+            Some(place) => advance(&mut self.rows, place, line),
             None => self.begin(line, server),
         }
     }
@@ -213,13 +209,11 @@ impl Histories {
         ensures order { self.new.order.items ≡ self.old.order.items }
         ensures leads { self.new.leads.items ≡ self.old.leads.items }
         ensures rows { OnOk result (self.new.rows.items ≡ self.old.rows.items ++ row ∷ []) }
-        ensures places { OnOk result (Updates nat_cmp self.old.places self.new.places server
-            (Some (length self.old.rows.items))) }
+        ensures places { OnOk result (IsPlaced server (length self.old.rows.items) self.old.places self.new.places) }
     {
         let place = self.rows.len();
         self.rows.push(row)?;
-        self.places.insert(u64::from(server), place)?;
-        Ok(())
+        self.places.put(server, place)
     }
 }
 

@@ -112,7 +112,7 @@ impl Judge {
         ensures { IfOk result (λ j. HasSeen j []) }
     {
         Ok(Judge {
-            histories: Histories::new(alloc),
+            histories: Histories::new(alloc)?,
             timelines: Timelines::new(alloc),
             submissions: BTreeMap::new(alloc),
             replies: BTreeMap::new(alloc),

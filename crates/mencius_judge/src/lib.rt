@@ -15,6 +15,7 @@ mod log_reader;
 mod observation;
 mod observation_lines;
 mod operations;
+mod places;
 mod quote;
 mod quotes;
 mod reply_checks;

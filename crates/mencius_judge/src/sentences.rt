@@ -2,7 +2,7 @@
 
 ghost use Rattle.std.specs.Prelude.{◌≡◌, ◌++◌, OnOk, string_bytes};
 ghost use Rattle.mencius_format.specs.Texts.{id_text};
-ghost use Rattle.mencius_judge.specs.Sentences.{command_sentence, gives_text, lookup_sentence, once_sentence, one_reply_sentence, real_time_sentence, reply_sentence, restore_sentence, same_order_sentence, sentence_text, server_sentence, settled_sentence};
+ghost use Rattle.mencius_judge.specs.Sentences.{command_sentence, floor_text, gives_text, lookup_sentence, once_sentence, one_reply_sentence, range_text, real_time_sentence, reply_sentence, restore_sentence, same_order_sentence, sentence_text, server_sentence, settled_sentence};
 
 use crate::observation::Answer;
 use crate::observation_lines::{push_answer, push_held};
@@ -175,10 +175,32 @@ fn push_lookup(
     write!(text, "Reader {reader}")?;
     text.push_str(" must find a text that ")?;
     text.push_str(key.as_str())?;
-    write!(
-        text,
-        " held after {from} to {to} of the executed commands, because the reader has already seen the first {from}."
-    )
+    text.push_str(" held after ")?;
+    push_range(text, from, to)?;
+    text.push_str(" of the executed commands")?;
+    push_floor(text, from)?;
+    text.push_str(".")
+}
+
+// Appends the numbers of commands from `from` to `to`.
+fn push_range(text: &mut String, from: usize, to: usize) -> Result<(), AllocError>
+    ensures { OnOk result (string_bytes text.new ≡ string_bytes text.old ++ range_text from to) }
+{
+    if from == to {
+        write!(text, "exactly {from}")
+    } else {
+        write!(text, "{from} to {to}")
+    }
+}
+
+// Appends the reason why a reader must see the first `from` commands, if there are any.
+fn push_floor(text: &mut String, from: usize) -> Result<(), AllocError>
+    ensures { OnOk result (string_bytes text.new ≡ string_bytes text.old ++ floor_text from) }
+{
+    if from == 0 {
+        return Ok(());
+    }
+    write!(text, ", because it saw or was told of the first {from}")
 }
 
 fn push_once(text: &mut String, server: u32, place: usize, id: CommandId) -> Result<(), AllocError>
@@ -240,11 +262,9 @@ fn push_restore(text: &mut String, server: u32, source: u32, count: u32) -> Resu
 {
     write!(text, "Server {server}")?;
     write!(text, " can take over {count}")?;
-    write!(
-        text,
-        " commands only if it has executed nothing and server {source}"
-    )?;
+    write!(text, " of the commands of server {source}")?;
+    write!(text, " only if it has executed nothing and server {source}")?;
     text.push_str(
-        " has executed that many; such a line is usually a fault of the log, because a server that starts anew takes a new number.",
+        " has that many. Such a line is usually a fault of the log. A server that starts anew takes a new number.",
     )
 }

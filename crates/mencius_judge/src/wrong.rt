@@ -27,7 +27,7 @@ pub(crate) fn too_long(alloc: Global) -> Result<String, NoMemory> {
 
 /// Returns the explanation of a last line without a line feed.
 pub(crate) fn cut_short(alloc: Global, line: &[u8]) -> Result<String, NoMemory> {
-    let words = "the log ends in it, and a line feed must follow its last word";
+    let words = "the log ends in it: end it with a line feed, or remove it";
     match str::from_utf8(line) {
         Ok(text) => {
             let word = shown(alloc, last_word(text))?;
@@ -77,10 +77,20 @@ fn unknown(alloc: Global, first: &str) -> Result<String, NoMemory> {
     if first.is_empty() {
         return Ok(String::from_str(alloc, "it begins with a space")?);
     }
+    if first.strip_prefix("\u{feff}").is_some() {
+        return Ok(String::from_str(
+            alloc,
+            "it begins with a byte order mark, which a log does not have",
+        )?);
+    }
     let word = shown(alloc, first)?;
-    Ok(format!(in alloc;
-        "no line begins with {word}: each begins with submit, execute, reply, lookup, told, settled or restore"
-    )?)
+    let kinds = "each begins with submit, execute, reply, lookup, told, settled or restore";
+    match first.as_bytes() {
+        [b'0'..=b'9', ..] => Ok(format!(in alloc;
+            "no line begins with {word}: {kinds}, and conformance/merge reads logs with times in front"
+        )?),
+        _ => Ok(format!(in alloc; "no line begins with {word}: {kinds}")?),
+    }
 }
 
 // Explains the words that are left after the last word of an observation.
@@ -137,7 +147,10 @@ fn wrong_words(
             return Ok(Some(missing(alloc, *word)?));
         };
         if has_fault(*word, text, fault) {
-            return Ok(Some(wrong_word(alloc, *word, text)?));
+            if text.is_empty() && left.is_none() {
+                return Ok(Some(missing(alloc, *word)?));
+            }
+            return Ok(Some(wrong_word(alloc, *word, text, fault)?));
         }
     }
     Ok(None)
@@ -149,9 +162,14 @@ fn wrong_operation(
     left: &mut Option<&str>,
     fault: IoFault,
 ) -> Result<Option<String>, NoMemory> {
-    let Some(operation) = next_word(left) else {
-        return Ok(Some(String::from_str(alloc, "the operation is missing")?));
-    };
+    let operation = next_word(left).unwrap_or("");
+    if operation.is_empty() {
+        let words = match left {
+            Some(_) => "there are two spaces before the operation",
+            None => "the operation is missing",
+        };
+        return Ok(Some(String::from_str(alloc, words)?));
+    }
     let Some(operands) = operands_of(operation) else {
         let word = shown(alloc, operation)?;
         return Ok(Some(format!(in alloc; "{NO_OPERATION}: {word}")?));
@@ -234,11 +252,49 @@ fn rule_of(word: Word) -> &'static str {
     }
 }
 
-fn wrong_word(alloc: Global, word: Word, text: &str) -> Result<String, NoMemory> {
+fn wrong_word(alloc: Global, word: Word, text: &str, fault: IoFault) -> Result<String, NoMemory> {
     let name = name_of(word);
-    let rule = rule_of(word);
+    if text.is_empty() {
+        return Ok(format!(in alloc; "there are two spaces before {name}")?);
+    }
+    if fault == IoFault::BadLimit {
+        if let Some(most) = most_bytes(word) {
+            let bytes = text.strip_prefix("=").unwrap_or(text).len();
+            return Ok(format!(in alloc; "{name} has {bytes} bytes, and may have at most {most}")?);
+        }
+    }
+    let has_zeros = fault == IoFault::BadShape && is_number_with_zeros(word, text);
     let text = shown(alloc, text)?;
+    if has_zeros {
+        return Ok(format!(in alloc; "{name} has a leading zero: {text}")?);
+    }
+    let rule = rule_of(word);
     Ok(format!(in alloc; "{name} is not {rule}: {text}")?)
+}
+
+// Returns the most bytes of a name.
+fn most_bytes(word: Word) -> Option<usize> {
+    match word {
+        Word::Key => Some(MOST_KEY_BYTES),
+        Word::Text | Word::Found | Word::Answer => Some(MOST_TEXT_BYTES),
+        _ => None,
+    }
+}
+
+// Returns whether a word has the shape of a number or an identity, but for leading zeros. The word is known to be wrong.
+fn is_number_with_zeros(word: Word, text: &str) -> bool {
+    match word {
+        Word::Server | Word::Source | Word::Count | Word::Reader => is_digits(text),
+        Word::Id => match text.split_once('.') {
+            Some((client, number)) => is_digits(client) && is_digits(number),
+            None => false,
+        },
+        _ => false,
+    }
+}
+
+fn is_digits(text: &str) -> bool {
+    !text.is_empty() && text.as_bytes().iter().all(|byte| byte.is_ascii_digit())
 }
 
 fn missing(alloc: Global, word: Word) -> Result<String, NoMemory> {

@@ -10,9 +10,10 @@ use Rattle.mencius_base.specs.declared.command.CommandId.{CommandId}
 use Rattle.mencius_judge.specs.declared.histories.Row.{Row}
 use Rattle.mencius_judge.specs.declared.judge.Execution.{Execution}
 use Rattle.mencius_judge.specs.declared.observation.Observation.TheVariants.{Settle}
+use Rattle.mencius_judge.specs.declared.places.Places.{Places}
 use Rattle.mencius_judge.specs.Log.{Log, acknowledged, command_of, has_id, history}
 use Rattle.mencius_judge.specs.Promises.{WereSettled}
-use Rattle.mencius_judge.specs.Rows.{Places, count_of}
+use Rattle.mencius_judge.specs.Rows.{count_of}
 use Rattle.mencius_judge.specs.Tables.{AreExecutions, AreHistories, AreReplies, AreSettled, Executions, IsOrder, Replies, identity_key, number_count}
 use Rattle.mencius_judge.proofs.acknowledged.OpenReplies.{as_true, is_true}
 use Rattle.mencius_judge.proofs.observations.HistorySteps.{whole_get}

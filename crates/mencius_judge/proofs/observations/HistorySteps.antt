@@ -13,9 +13,10 @@ use Rattle.mencius_model.proofs.replies.RepliesAfterEvents.{slice_get-append}
 use Rattle.mencius_judge.specs.declared.histories.Row.{Row}
 use Rattle.mencius_judge.specs.declared.histories.Snapshot.{Snapshot}
 use Rattle.mencius_judge.specs.declared.observation.Observation.TheVariants.{Submit, Execute, Reply, Lookup, Tell, Settle, Restore}
+use Rattle.mencius_judge.specs.declared.places.Places.{Places}
 use Rattle.mencius_judge.specs.Log.{Log, has_id, history, servers_of}
 use Rattle.mencius_judge.specs.Promises.{AreComparable, StandOnce, WereRestored}
-use Rattle.mencius_judge.specs.Rows.{IsAdded, IsAdvanced, IsFollowed, Places, count_of}
+use Rattle.mencius_judge.specs.Rows.{IsAdded, IsAdvanced, IsFollowed, count_of, server_place}
 use Rattle.mencius_judge.specs.Tables.{AreHistories, IsOrder}
 use Rattle.mencius_judge.proofs.promises.Identities.{has_place}
 use Rattle.mencius_judge.proofs.observations.RowSteps.{AreRows, IsOnce, added, advanced, counted, end_of, none_placed, rows_same, with_server_new, with_server_none, with_server_once, with_server_other, with_server_same}
@@ -153,7 +154,7 @@ module _ (w : Log) (order : List CommandId) (places : Places) (rows : List Row) 
     pub rows_executed : (line : ℕ) (new_places : Places) (new_rows : List Row) → WereRestored w
         → IsFollowed line p places rows new_places new_rows
         → AreRows (size_of (Execute p id ∷ w)) (servers_of (Execute p id ∷ w)) new_places new_rows
-    rows_executed line new_places new_rows restored followed = by_place (get nat_cmp places p) refl followed
+    rows_executed line new_places new_rows restored followed = by_place (server_place places p) refl followed
       where
         old : AreRows (size_of w) (servers_of w) places rows
         old = rows_are w order places rows h
@@ -164,7 +165,7 @@ module _ (w : Log) (order : List CommandId) (places : Places) (rows : List Row) 
         more : size_of (Execute p id ∷ w) p ≡ size_of w p + 1
         more = ap length (own w p id) ∙ length-append (history w p) (id ∷ [])
 
-        by_place : (o : Option ℕ) → get nat_cmp places p ≡ o
+        by_place : (o : Option ℕ) → server_place places p ≡ o
             → MatchOption o (IsAdded p 1 None (line ∷ []) places rows new_places new_rows)
             (λ m. (new_places ≡ places) × IsAdvanced line m rows new_rows)
             → AreRows (size_of (Execute p id ∷ w)) (servers_of (Execute p id ∷ w)) new_places new_rows

@@ -12,6 +12,7 @@ use Rattle.mencius_judge.specs.declared.judge.Execution.{Execution}
 use Rattle.mencius_judge.specs.declared.judge.FirstReply.{FirstReply}
 use Rattle.mencius_judge.specs.declared.judge.Judge.{Judge}
 use Rattle.mencius_judge.specs.declared.judge.Submission.{Submission}
+use Rattle.mencius_judge.specs.declared.places.Places.{Places}
 use Rattle.mencius_judge.specs.declared.timeline.Timeline.{Timeline}
 use Rattle.mencius_judge.specs.declared.observation.Observation.TheVariants.{Execute, Reply}
 use Rattle.mencius_judge.specs.declared.violation.Violation.TheVariants.{RightReply}
@@ -19,7 +20,7 @@ use Rattle.mencius_judge.specs.Answers.{IsRight}
 use Rattle.mencius_judge.specs.Judged.{Breaks, HasSeenLog}
 use Rattle.mencius_judge.specs.Log.{Log, acknowledged, acknowledged_before, command_of, commands_of, has_id, history, reply_of}
 use Rattle.mencius_judge.specs.Promises.{StandBehindReplies, StandOnce}
-use Rattle.mencius_judge.specs.Rows.{IsFollowed, Places, count_of}
+use Rattle.mencius_judge.specs.Rows.{IsFollowed, count_of}
 use Rattle.mencius_judge.specs.Tables.{AreExecutions, AreHistories, AreSettled, Executions, IsNoWrong, IsOrder, identity_key, number_count}
 use Rattle.mencius_judge.specs.Timelines.{AreTimelines}
 use Rattle.mencius_judge.specs.Violations.{IsAnswerAt}

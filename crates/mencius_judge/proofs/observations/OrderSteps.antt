@@ -8,10 +8,11 @@ use Rattle.mencius_model.specs.KeyMap.{out}
 use Rattle.mencius_judge.specs.declared.histories.Row.{Row}
 use Rattle.mencius_judge.specs.declared.observation.Answer.{Answer}
 use Rattle.mencius_judge.specs.declared.observation.Observation.TheVariants.{Submit, Execute, Reply}
+use Rattle.mencius_judge.specs.declared.places.Places.{Places}
 use Rattle.mencius_judge.specs.Answers.{IsRight}
 use Rattle.mencius_judge.specs.Log.{Log, acknowledged_before, command_of, commands_of, has_id, history}
 use Rattle.mencius_judge.specs.Promises.{AreRightReplies, StandBehindReplies}
-use Rattle.mencius_judge.specs.Rows.{Places, count_of}
+use Rattle.mencius_judge.specs.Rows.{count_of}
 use Rattle.mencius_judge.specs.Tables.{AreHistories, IsOrder}
 use Rattle.mencius_judge.proofs.promises.Identities.{has_place, place_has}
 use Rattle.mencius_judge.proofs.observations.Quiet.{quiet_reply}

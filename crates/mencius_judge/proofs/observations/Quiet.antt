@@ -4,12 +4,12 @@ use Rattle.std.specs.List.{Contains}
 use Rattle.std.specs.BTreeMap.{BTreeMap}
 use Rattle.mencius_base.specs.declared.command.Command.{Command}
 use Rattle.mencius_base.specs.declared.command.CommandId.{CommandId}
-use Rattle.mencius_judge.specs.Rows.{Places}
 use Rattle.mencius_judge.specs.declared.histories.Row.{Row}
 use Rattle.mencius_judge.specs.declared.judge.Submission.{Submission}
 use Rattle.mencius_judge.specs.declared.observation.Answer.{Answer}
 use Rattle.mencius_judge.specs.declared.observation.Observation.{Observation}
 use Rattle.mencius_judge.specs.declared.observation.Observation.TheVariants.{Submit, Execute, Reply, Lookup, Tell, Settle, Restore}
+use Rattle.mencius_judge.specs.declared.places.Places.{Places}
 use Rattle.mencius_judge.specs.Log.{Log}
 use Rattle.mencius_judge.specs.Promises.{AreOneCommand, AreOneReply}
 use Rattle.mencius_judge.specs.Tables.{AreExecutions, AreFloors, AreHistories, AreReplies, AreSubmissions, Executions, IsOrder, Replies}

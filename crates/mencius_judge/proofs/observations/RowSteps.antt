@@ -10,9 +10,9 @@ use Rattle.mencius_base.specs.Numbers.{ServerId}
 use Rattle.mencius_base.specs.declared.command.CommandId.{CommandId}
 use Rattle.mencius_judge.specs.declared.histories.Row.{Row}
 use Rattle.mencius_judge.specs.declared.histories.Snapshot.{Snapshot}
+use Rattle.mencius_judge.specs.declared.places.Places.{Places}
 use Rattle.mencius_judge.specs.Log.{with_server}
-use Rattle.mencius_judge.specs.Rows.{IsAdded, IsAdvanced, Places, count_in, count_of, row_at, row_count}
-use Rattle.mencius_judge.proofs.promises.Identities.{get_other}
+use Rattle.mencius_judge.specs.Rows.{IsAdded, IsAdvanced, count_in, count_of, row_at, row_count, server_place}
 
 -- ---- lists
 
@@ -135,8 +135,8 @@ with_server_other servers p (id ∷ ids) n q e ne = by_test (list_any (λ (r : S
 -- each server with commands has a row, at its place among the servers. The row has the number of its commands
 pub record AreRows (size : ServerId → ℕ) (servers : List ServerId) (places : Places) (rows : List Row) : Type 0 where
   pub lengths : map row_count rows ≡ map size servers
-  pub there : (p : ServerId) (n : ℕ) → get nat_cmp places p ≡ Some n → slice_get servers n ≡ Some p
-  pub known : (p : ServerId) → size p ≢ 0 → IsSome (get nat_cmp places p)
+  pub there : (p : ServerId) (n : ℕ) → server_place places p ≡ Some n → slice_get servers n ≡ Some p
+  pub known : (p : ServerId) → size p ≢ 0 → IsSome (server_place places p)
 
 module _ (size : ServerId → ℕ) (servers : List ServerId) (places : Places) (rows : List Row)
     (h : AreRows size servers places rows) where
@@ -155,7 +155,7 @@ module _ (size : ServerId → ℕ) (servers : List ServerId) (places : Places) (
       by_row (Some row) is e = (row, is, cc)
 
   -- a server without a place has no command
-  pub none_placed : (p : ServerId) → get nat_cmp places p ≡ None → size p ≡ 0
+  pub none_placed : (p : ServerId) → server_place places p ≡ None → size p ≡ 0
   none_placed p none = by_size (size p) refl
     where
       not_some : (o : Option ℕ) → o ≡ None → IsSome o → ⊥
@@ -164,13 +164,13 @@ module _ (size : ServerId → ℕ) (servers : List ServerId) (places : Places) (
 
       by_size : (n : ℕ) → size p ≡ n → size p ≡ 0
       by_size zero e = e
-      by_size (suc n) e = absurd (not_some (get nat_cmp places p) none (h.known p (λ z. omega (arith, e, z))))
+      by_size (suc n) e = absurd (not_some (server_place places p) none (h.known p (λ z. omega (arith, e, z))))
 
   -- the row of a server has the number of its commands
   pub counted : (p : ServerId) → count_of places rows p ≡ size p
-  counted p = by_place (get nat_cmp places p) refl
+  counted p = by_place (server_place places p) refl
     where
-      by_place : (o : Option ℕ) → get nat_cmp places p ≡ o → count_of places rows p ≡ size p
+      by_place : (o : Option ℕ) → server_place places p ≡ o → count_of places rows p ≡ size p
       by_place None e = ap (λ o. count_in (row_at rows o)) e ∙ sym (none_placed p e)
       by_place (Some n) e =
           let r = row_there n p (h.there p n e) in
@@ -201,17 +201,17 @@ module _ (size : ServerId → ℕ) (servers : List ServerId) (places : Places) (
       there = λ q n e. ⊎_elim
           (λ (same : p ≡ q).
           let at : Some (length rows) ≡ Some n =
-          sym a.place.1 ∙ ap (get nat_cmp new_places) same ∙ e in
+          sym a.place.own ∙ ap (server_place new_places) same ∙ e in
           let place : n ≡ length servers = (let m : length rows ≡ n = cc in sym m ∙ rows_length) in
           subst (λ (r : ServerId). slice_get (servers ++ p ∷ []) n ≡ Some r) same
           (ap (slice_get (servers ++ p ∷ [])) place ∙ end_of servers p))
           (λ (ne : p ≢ q). still_item servers (p ∷ []) n q
-          (h.there q n (sym (get_other places new_places p q (Some (length rows)) a.place ne) ∙ e)))
+          (h.there q n (sym (a.place.others q ne) ∙ e)))
           (cases_eq p q);
       known = λ q more. ⊎_elim
-          (λ (same : p ≡ q). some_is (get nat_cmp new_places q) (length rows)
-          (ap (get nat_cmp new_places) (sym same) ∙ a.place.1))
-          (λ (ne : p ≢ q). subst IsSome (sym (get_other places new_places p q (Some (length rows)) a.place ne))
+          (λ (same : p ≡ q). some_is (server_place new_places q) (length rows)
+          (ap (server_place new_places) (sym same) ∙ a.place.own))
+          (λ (ne : p ≢ q). subst IsSome (sym (a.place.others q ne))
           (h.known q (λ z. more (others q ne ∙ z))))
           (cases_eq p q);
     }
@@ -221,14 +221,14 @@ module _ (size : ServerId → ℕ) (servers : List ServerId) (places : Places) (
         some_is (Some m) n e = refl
 
     -- a server with a row gets one more command
-    pub advanced : (line n : ℕ) (new_rows : List Row) → IsOnce servers → get nat_cmp places p ≡ Some n
+    pub advanced : (line n : ℕ) (new_rows : List Row) → IsOnce servers → server_place places p ≡ Some n
         → IsAdvanced line n rows new_rows → new_size p ≡ size p + 1 → AreRows new_size servers places new_rows
     advanced line n new_rows once placed a size_is = record {
       lengths = same_items (map row_count new_rows) (map new_size servers) (λ m.
           slice_get-map row_count new_rows m ∙ item m ∙ sym (slice_get-map new_size servers m));
       there = h.there;
       known = λ q more. ⊎_elim
-          (λ (same : p ≡ q). some_is (get nat_cmp places q) (ap (get nat_cmp places) (sym same) ∙ placed))
+          (λ (same : p ≡ q). some_is (server_place places q) (ap (server_place places) (sym same) ∙ placed))
           (λ (ne : p ≢ q). h.known q (λ z. more (others q ne ∙ z)))
           (cases_eq p q);
     }

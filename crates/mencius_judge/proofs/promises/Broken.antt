@@ -11,10 +11,10 @@ use Rattle.mencius_judge.specs.declared.histories.Row.{Row}
 use Rattle.mencius_judge.specs.declared.judge.Execution.{Execution}
 use Rattle.mencius_judge.specs.declared.observation.Answer.{Answer}
 use Rattle.mencius_judge.specs.declared.observation.Observation.TheVariants.{Submit, Execute, Reply}
+use Rattle.mencius_judge.specs.declared.places.Places.{Places}
 use Rattle.mencius_judge.specs.Answers.{IsRight}
 use Rattle.mencius_judge.specs.Log.{Log, acknowledged, acknowledged_before, command_of, has_id, history, reply_of}
 use Rattle.mencius_judge.specs.Promises.{AreOneCommand, AreOneReply, AreRightReplies, StandBehindReplies}
-use Rattle.mencius_judge.specs.Rows.{Places}
 use Rattle.mencius_judge.specs.Tables.{AreExecutions, AreHistories, AreSettled, Executions, identity_key, number_count}
 use Rattle.mencius_judge.specs.Violations.{IsAnswerAt}
 use Rattle.mencius_judge.proofs.promises.Identities.{has_place, place_has}

@@ -7,12 +7,13 @@ use Rattle.std.specs.BTreeMap.{BTreeMap, IsEmpty, get}
 use Rattle.std.specs.Map.{lookup}
 use Rattle.std.specs.BTreeMap.{is_at}
 use Rattle.mencius_base.specs.declared.command.CommandId.{CommandId}
-use Rattle.mencius_judge.specs.Rows.{Places, count_in, count_of, row_at, row_count}
+use Rattle.mencius_judge.specs.Rows.{count_in, count_of, row_at, row_count, server_place}
 use Rattle.mencius_judge.specs.declared.histories.Row.{Row}
 use Rattle.mencius_judge.specs.declared.judge.FirstReply.{FirstReply}
 use Rattle.mencius_judge.specs.declared.judge.Submission.{Submission}
 use Rattle.mencius_judge.specs.Promises.{AreOneCommand, AreOneReply}
 use Rattle.mencius_judge.specs.declared.observation.Observation.TheVariants.{Reply, Submit}
+use Rattle.mencius_judge.specs.declared.places.Places.{Places}
 use Rattle.mencius_judge.specs.Log.{has_id}
 use Rattle.mencius_judge.specs.Tables.{AreExecutions, AreFloors, floor_of, AreHistories, AreReplies, AreSettled, AreSubmissions, Executions, IsOrder, Replies, identity_key}
 use Rattle.mencius_judge.proofs.promises.Logs.{contains_none}
@@ -34,7 +35,7 @@ no_submissions rows e = record {
 }
 
 pub no_histories : (order : List CommandId) (places : Places) (rows : List Row) → order ≡ []
-    → ((p : ℕ) → get nat_cmp places p ≡ None) → rows ≡ [] → AreHistories [] order places rows
+    → ((p : ℕ) → server_place places p ≡ None) → rows ≡ [] → AreHistories [] order places rows
 no_histories order places rows e none f = record {
   each = λ p. sym (ap (take (count_of places rows p)) e ∙ take-nil (count_of places rows p));
   within = λ p. let zero_is : count_of places rows p ≡ 0 = ap (λ o. count_in (row_at rows o)) (none p) in omega (arith, zero_is);

@@ -11,8 +11,9 @@ use Rattle.mencius_model.specs.KeyMap.{value_at}
 use Rattle.mencius_judge.specs.declared.observation.Observation.TheVariants.{Lookup, Tell}
 use Rattle.mencius_judge.specs.Log.{Log, MaySee, command_of, commands_of, history}
 use Rattle.mencius_judge.specs.Promises.{AreRightLookups}
-use Rattle.mencius_judge.specs.Rows.{Places, count_of}
+use Rattle.mencius_judge.specs.Rows.{count_of}
 use Rattle.mencius_judge.specs.declared.histories.Row.{Row}
+use Rattle.mencius_judge.specs.declared.places.Places.{Places}
 use Rattle.mencius_judge.specs.Tables.{AreFloors, AreHistories, IsOrder, floor_of}
 use Rattle.mencius_judge.specs.Timelines.{HasNone, IsFirstCount, held_by}
 use Rattle.mencius_judge.specs.Violations.{IsNowhere}

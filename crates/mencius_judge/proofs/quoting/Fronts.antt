@@ -6,8 +6,9 @@ use Rattle.mencius_model.specs.KeyMap.{value_at}
 use Rattle.mencius_judge.specs.declared.histories.Row.{Row}
 use Rattle.mencius_judge.specs.declared.observation.Observation.{Observation}
 use Rattle.mencius_judge.specs.declared.observation.Observation.TheVariants.{Submit, Execute, Reply, Lookup, Tell, Settle, Restore}
+use Rattle.mencius_judge.specs.declared.places.Places.{Places}
 use Rattle.mencius_judge.specs.Log.{Log, command_of, commands_of, history}
-use Rattle.mencius_judge.specs.Rows.{Places, count_of}
+use Rattle.mencius_judge.specs.Rows.{count_of}
 use Rattle.mencius_judge.specs.Tables.{AreHistories, IsOrder}
 use Rattle.mencius_judge.specs.Timelines.{held_by}
 use Rattle.mencius_judge.proofs.observations.HistorySteps.{whole_get}

@@ -19,7 +19,7 @@ use Rattle.mencius_judge.specs.Judged.{HasSeen}
 use Rattle.mencius_judge.specs.Log.{command_of, has_id, history, reply_of}
 use Rattle.mencius_judge.specs.Promises.{WereRestored}
 use Rattle.mencius_judge.specs.Quotes.{IsFirstGift, IsFirstLine, IsGift, NumberedLog, Replies, Submits, log_of}
-use Rattle.mencius_judge.specs.Rows.{count_in, count_of, row_at, row_of}
+use Rattle.mencius_judge.specs.Rows.{count_in, count_of, row_at, row_of, server_place}
 use Rattle.mencius_judge.specs.Sources.{HasGifts, lead_line, reply_line, snapshot_count, snapshot_line, submission_line}
 use Rattle.mencius_judge.specs.Tables.{identity_key, number_count}
 use Rattle.mencius_judge.proofs.promises.Identities.{has_place, place_has}
@@ -136,9 +136,9 @@ module _ (judge : Judge) (n : NumberedLog) (h : HasSeen judge n) where
 
   pub row_gifts : (p : ℕ) (row : Row) → row_of judge.histories.places judge.histories.rows.items p ≡ Some row
       → HasGifts n judge.histories.order.items p row
-  row_gifts p row is = by_place (get nat_cmp judge.histories.places p) refl is
+  row_gifts p row is = by_place (server_place judge.histories.places p) refl is
     where
-      by_place : (o : Option ℕ) → get nat_cmp judge.histories.places p ≡ o
+      by_place : (o : Option ℕ) → server_place judge.histories.places p ≡ o
           → row_at judge.histories.rows.items o ≡ Some row
           → HasGifts n judge.histories.order.items p row
       by_place None at there = absurd (none_some there)

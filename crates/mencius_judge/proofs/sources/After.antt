@@ -11,10 +11,11 @@ use Rattle.mencius_judge.specs.declared.histories.Snapshot.{Snapshot}
 use Rattle.mencius_judge.specs.declared.judge.FirstReply.{FirstReply}
 use Rattle.mencius_judge.specs.declared.judge.Submission.{Submission}
 use Rattle.mencius_judge.specs.declared.observation.Observation.TheVariants.{Execute, Restore}
+use Rattle.mencius_judge.specs.declared.places.Places.{Places}
 use Rattle.mencius_judge.specs.declared.quote.Quote.{Quote}
 use Rattle.mencius_judge.specs.Log.{command_of, history, reply_of, servers_of}
 use Rattle.mencius_judge.specs.Quotes.{IsFirstGift, IsFirstLine, IsGift, NumberedLog, Replies as IsReplyTo, Submits, log_of}
-use Rattle.mencius_judge.specs.Rows.{IsAdded, IsAdvanced, IsFollowed, IsRow, Places, count_in, count_of, row_at, row_count}
+use Rattle.mencius_judge.specs.Rows.{IsAdded, IsAdvanced, IsFollowed, IsRow, count_in, count_of, row_at, row_count, server_place}
 use Rattle.mencius_judge.specs.Sources.{AreSources, HasGifts, lead_line, reply_line, snapshot_count, snapshot_line, submission_line}
 use Rattle.mencius_judge.specs.Tables.{AreHistories, Replies, identity_key, number_count}
 use Rattle.mencius_judge.proofs.observations.RowSteps.{at_end, end_of}
@@ -28,7 +29,7 @@ use Rattle.mencius_judge.proofs.sources.Places.{item_before, item_there, item_wi
 -- the tables are empty before the first line
 pub sources_new : (order : List CommandId) (leads : List Lead) (places : Places) (rows : List Row)
     (submissions : BTreeMap ℕ Submission) (replies : Replies) → order ≡ [] → leads ≡ []
-    → ((k : ℕ) → get nat_cmp places k ≡ None) → ((k : ℕ) → get nat_cmp submissions k ≡ None)
+    → ((k : ℕ) → server_place places k ≡ None) → ((k : ℕ) → get nat_cmp submissions k ≡ None)
     → ((k : ℕ) → get nat_cmp replies k ≡ None) → AreSources [] order leads places rows submissions replies
 sources_new order leads places rows submissions replies no_order no_leads no_places no_submissions no_replies = record {
   submitted = λ id s small e. absurd (none_some (sym (no_submissions (identity_key id)) ∙ e));
@@ -144,12 +145,12 @@ module _ (lines : NumberedLog) (order : List CommandId) (leads : List Lead) (pla
         ∙ length-map (servers_of (log_of lines)) (λ p. length (history (log_of lines) p))
 
     -- the place of a server's row is within the rows, and is no other server's place
-    within : (p n : ℕ) → get nat_cmp places p ≡ Some n → n < length rows
+    within : (p n : ℕ) → server_place places p ≡ Some n → n < length rows
     within p n at =
         let inside = item_within (servers_of (log_of lines)) n p (histories.there p n at) in
         omega (arith, inside, size)
 
-    apart : (p q n : ℕ) → get nat_cmp places p ≡ Some n → get nat_cmp places q ≡ Some n → p ≡ q
+    apart : (p q n : ℕ) → server_place places p ≡ Some n → server_place places q ≡ Some n → p ≡ q
     apart p q n at there = same_some (sym (histories.there p n at) ∙ histories.there q n there)
 
     -- the history of a server has as many commands as its row says
@@ -161,13 +162,13 @@ module _ (lines : NumberedLog) (order : List CommandId) (leads : List Lead) (pla
     -- after the line, the rows have the row of one server, and the other rows are as before
     record NewRow (line : Quote) (new_order : List CommandId) (p : ℕ) (new_places : Places) (new_rows : List Row)
         : Type 0 where
-      own : (n : ℕ) (row : Row) → get nat_cmp new_places p ≡ Some n → slice_get new_rows n ≡ Some row
+      own : (n : ℕ) (row : Row) → server_place new_places p ≡ Some n → slice_get new_rows n ≡ Some row
           → HasGifts (line ∷ lines) new_order p row
-      others : (q n : ℕ) (row : Row) → p ≢ q → get nat_cmp new_places q ≡ Some n → slice_get new_rows n ≡ Some row
-          → (get nat_cmp places q ≡ Some n) × (slice_get rows n ≡ Some row)
+      others : (q n : ℕ) (row : Row) → p ≢ q → server_place new_places q ≡ Some n → slice_get new_rows n ≡ Some row
+          → (server_place places q ≡ Some n) × (slice_get rows n ≡ Some row)
 
     -- the count of a row that is there
-    row_is : (p n : ℕ) (row : Row) → get nat_cmp places p ≡ Some n → slice_get rows n ≡ Some row
+    row_is : (p n : ℕ) (row : Row) → server_place places p ≡ Some n → slice_get rows n ≡ Some row
         → count_of places rows p ≡ row.count
     row_is p n row at there = ap (λ o. count_in (row_at rows o)) at ∙ ap count_in there
 
@@ -175,12 +176,12 @@ module _ (lines : NumberedLog) (order : List CommandId) (leads : List Lead) (pla
     with_row : (line : Quote) (new_order : List CommandId) (p : ℕ) (new_places : Places) (new_rows : List Row)
         → ((k : ℕ) (id : CommandId) → k < length order → slice_get new_order k ≡ Some id → slice_get order k ≡ Some id)
         → NewRow line new_order p new_places new_rows
-        → (q n : ℕ) (row : Row) → get nat_cmp new_places q ≡ Some n → slice_get new_rows n ≡ Some row
+        → (q n : ℕ) (row : Row) → server_place new_places q ≡ Some n → slice_get new_rows n ≡ Some row
         → HasGifts (line ∷ lines) new_order q row
     with_row line new_order p new_places new_rows same new q n row at there = ⊎_elim
         (λ (e : p ≡ q).
         subst (λ (r : ℕ). HasGifts (line ∷ lines) new_order r row) e
-        (new.own n row (ap (get nat_cmp new_places) e ∙ at) there))
+        (new.own n row (ap (server_place new_places) e ∙ at) there))
         (λ (other : p ≢ q).
         let was = new.others q n row other at there in
         let inside : row.count ≤ length order =
@@ -190,20 +191,16 @@ module _ (lines : NumberedLog) (order : List CommandId) (leads : List Lead) (pla
         (cases_eq p q)
 
     -- a server without a row has no commands
-    none_is : (p : ℕ) → get nat_cmp places p ≡ None → count_of places rows p ≡ 0
+    none_is : (p : ℕ) → server_place places p ≡ None → count_of places rows p ≡ 0
     none_is p none = ap (λ o. count_in (row_at rows o)) none
 
     -- the other rows after a row was added
     added_others : (p count : ℕ) (snapshot : Option Snapshot) (numbers : List ℕ) (new_places : Places)
         (new_rows : List Row) → IsAdded p count snapshot numbers places rows new_places new_rows → (q n : ℕ) (row : Row)
-        → p ≢ q → get nat_cmp new_places q ≡ Some n → slice_get new_rows n ≡ Some row
-        → (get nat_cmp places q ≡ Some n) × (slice_get rows n ≡ Some row)
+        → p ≢ q → server_place new_places q ≡ Some n → slice_get new_rows n ≡ Some row
+        → (server_place places q ≡ Some n) × (slice_get rows n ≡ Some row)
     added_others p count snapshot numbers new_places new_rows added q n row other at there =
-        let elsewhere : is_at (nat_cmp p) q ≡ false =
-        ⊎_elim (λ (e : is_at (nat_cmp p) q ≡ true). absurd (other (grind arith)))
-        (λ (e : is_at (nat_cmp p) q ≡ false). e)
-        (cases_Bool (is_at (nat_cmp p) q)) in
-        let was : get nat_cmp places q ≡ Some n = sym (added.place.2 q elsewhere) ∙ at in (
+        let was : server_place places q ≡ Some n = sym (added.place.others q other) ∙ at in (
           was,
           item_before rows added.row n row (within q n was)
               (ap (λ xs. slice_get xs n) (sym added.rows_are) ∙ there),
@@ -212,9 +209,9 @@ module _ (lines : NumberedLog) (order : List CommandId) (leads : List Lead) (pla
     -- the row that was added
     added_own : (p count : ℕ) (snapshot : Option Snapshot) (numbers : List ℕ) (new_places : Places)
         (new_rows : List Row) → (added : IsAdded p count snapshot numbers places rows new_places new_rows) → (n : ℕ)
-        (row : Row) → get nat_cmp new_places p ≡ Some n → slice_get new_rows n ≡ Some row → added.row ≡ row
+        (row : Row) → server_place new_places p ≡ Some n → slice_get new_rows n ≡ Some row → added.row ≡ row
     added_own p count snapshot numbers new_places new_rows added n row at there =
-        let last : length rows ≡ n = same_some (sym added.place.1 ∙ at) in
+        let last : length rows ≡ n = same_some (sym added.place.own ∙ at) in
         same_some (sym (end_of rows added.row) ∙ ap (slice_get (rows ++ added.row ∷ [])) last
         ∙ ap (λ xs. slice_get xs n) (sym added.rows_are) ∙ there)
 
@@ -249,7 +246,7 @@ module _ (lines : NumberedLog) (order : List CommandId) (leads : List Lead) (pla
           moved (count_of places rows p) place (execution number id) (execution m x) is
           (ap₂ execution line command) gift
 
-      begun : (row : Row) → get nat_cmp places p ≡ None → IsRow 1 None (number ∷ []) row
+      begun : (row : Row) → server_place places p ≡ None → IsRow 1 None (number ∷ []) row
           → HasGifts (execution number id ∷ lines) new_order p row
       begun row none is = record {
         count =
@@ -302,9 +299,9 @@ module _ (lines : NumberedLog) (order : List CommandId) (leads : List Lead) (pla
 
       followed : (new_places : Places) (new_rows : List Row) → IsFollowed number p places rows new_places new_rows
           → NewRow (execution number id) new_order p new_places new_rows
-      followed new_places new_rows f = by_place (get nat_cmp places p) refl f
+      followed new_places new_rows f = by_place (server_place places p) refl f
         where
-          by_place : (o : Option ℕ) → get nat_cmp places p ≡ o
+          by_place : (o : Option ℕ) → server_place places p ≡ o
               → MatchOption o (IsAdded p 1 None (number ∷ []) places rows new_places new_rows)
               (λ n. (new_places ≡ places) × IsAdvanced number n rows new_rows)
               → NewRow (execution number id) new_order p new_places new_rows
@@ -318,7 +315,7 @@ module _ (lines : NumberedLog) (order : List CommandId) (leads : List Lead) (pla
           by_place (Some n) is (same_places, step) = record {
             own = λ m row at there.
                 let place : n ≡ m =
-                same_some (sym is ∙ ap (λ (ps : Places). get nat_cmp ps p) (sym same_places) ∙ at) in
+                same_some (sym is ∙ ap (λ (ps : Places). server_place ps p) (sym same_places) ∙ at) in
                 let old = item_there rows n (within p n is) in
                 let new = step.own old.0 old.1 in
                 let one : new.0 ≡ row = same_some (sym new.1 ∙ ap (slice_get new_rows) place ∙ there) in
@@ -327,8 +324,8 @@ module _ (lines : NumberedLog) (order : List CommandId) (leads : List Lead) (pla
                 subst (λ (r : Row). HasGifts (execution number id ∷ lines) new_order p r) one
                 (advanced old.0 new.0 count (omega (arith, count, few)) (h.given p n old.0 is old.1) new.2);
             others = λ q m row other at there.
-                let was : get nat_cmp places q ≡ Some m =
-                ap (λ (ps : Places). get nat_cmp ps q) (sym same_places) ∙ at in
+                let was : server_place places q ≡ Some m =
+                ap (λ (ps : Places). server_place ps q) (sym same_places) ∙ at in
                 let elsewhere : m ≢ n = λ (e : m ≡ n). other (apart p q n is (was ∙ ap Some e)) in (
                   was,
                   sym (step.others m elsewhere) ∙ there,
