@@ -57,6 +57,7 @@ pub(crate) fn read_check<R: Source>(alloc: Global, source: &mut R) -> Result<Out
     Ok(Output {
         text,
         is_clean: true,
+        judge: None,
     })
 }
 

@@ -10,7 +10,8 @@ ghost use Rattle.mencius_app.specs.Tasks.{IsOutput, Writes, streams};
 use crate::output::{Output, deliver};
 use mencius_io::{Failure, Sink, Source};
 use mencius_judge::{
-    Breach, Verdict, judge_log, push_broken, push_explanation, push_json, push_kept, push_unjudged,
+    Breach, Judgement, Verdict, judge_log, push_broken, push_explanation, push_json, push_kept,
+    push_unjudged,
 };
 use std::alloc::{AllocError, Global};
 
@@ -58,11 +59,12 @@ pub(crate) fn read_judgement<R: Source>(
     ensures few { (R.state source.new).failures
         ≤ (R.state source.old).failures + most_failed_calls }
 {
-    let verdict = judge_log(alloc, source)?;
+    let Judgement { verdict, judge } = judge_log(alloc, source)?;
     let text = text_of(alloc, &verdict, is_brief, is_json)?;
     Ok(Output {
         text,
         is_clean: is_kept(&verdict),
+        judge: Some(judge),
     })
 }
 

@@ -5,6 +5,7 @@ ghost use Rattle.mencius_io.specs.Streams.{most_failed_calls};
 ghost use Rattle.mencius_app.specs.Tasks.{Delivers};
 
 use mencius_io::{Failure, Sink, write_all};
+use mencius_judge::Judge;
 
 /// The text that a task makes from its input.
 #[derive(Drop)]
@@ -13,6 +14,8 @@ pub(crate) struct Output {
     pub text: String,
     /// Whether no event was refused, and no promise is broken.
     pub is_clean: bool,
+    /// The judge of a log. It is kept until the text is written, because it may take a second to free its data.
+    pub judge: Option<Judge>,
 }
 
 /// Writes the text that a task made, if it made one. Returns whether the text is clean, or why the task failed.

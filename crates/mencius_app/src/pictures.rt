@@ -56,6 +56,7 @@ pub(crate) fn read_picture<R: Source>(
     Ok(Output {
         text,
         is_clean: true,
+        judge: None,
     })
 }
 

@@ -70,6 +70,7 @@ fn read_state<R: Source>(alloc: Global, source: &mut R) -> Result<Output, Failur
     Ok(Output {
         text,
         is_clean: true,
+        judge: None,
     })
 }
 

@@ -52,6 +52,7 @@ pub(crate) fn read_trace<R: Source>(alloc: Global, source: &mut R) -> Result<Out
     Ok(Output {
         text,
         is_clean: true,
+        judge: None,
     })
 }
 

@@ -32,7 +32,7 @@ mod wrong;
 pub use counts::Counts;
 pub use judge::Judge;
 pub use line::{parse_line, parse_observation};
-pub use log_reader::{Breach, Verdict, judge_log};
+pub use log_reader::{Breach, Judgement, Verdict, judge_log};
 pub use observation::{Answer, Observation};
 pub use observation_lines::push_observation;
 pub use quote::Quote;
