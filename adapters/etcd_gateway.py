@@ -40,10 +40,10 @@ def parsed(endpoint):
     """The host and the port of an endpoint, with or without `http://`."""
     try:
         parts = urllib.parse.urlsplit(endpoint if "://" in endpoint else "http://" + endpoint)
-        host, port = parts.hostname, parts.port or 2379
+        host, port = parts.hostname, parts.port
     except ValueError:
-        host = None
-    if not host or parts.scheme != "http" or parts.path.strip("/"):
+        host = port = None
+    if not host or not port or parts.scheme != "http" or parts.path.strip("/"):
         raise Trouble(f"{endpoint} is not an endpoint. Write HOST:PORT or http://HOST:PORT, without TLS.")
     return host, port
 

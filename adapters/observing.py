@@ -61,7 +61,8 @@ LITERAL = re.compile(r"[A-Za-z0-9.-][A-Za-z0-9_.-]*")
 IDENTITY = re.compile(r"(0|[1-9][0-9]{0,8})\.(0|[1-9][0-9]{0,8})")
 MADE_WORD = re.compile(rf"(?<![A-Za-z0-9_.-])(_[0-9]+|{MADE}\.[0-9]+)")
 READER = re.compile(r"\b(?:[Rr]eader|lookup|told) ([0-9]+)")
-SERVER = re.compile(r"\b(?:[Ss]erver|execute|settled|restore) ([0-9]+)")
+# The number is not the first half of an identity, as in "must execute 1.0".
+SERVER = re.compile(r"\b(?:[Ss]erver|execute|settled|restore) ([0-9]+)(?!\.?[0-9])")
 OTHER_SERVER = re.compile(r"\b(?:told|restore) [0-9]+ ([0-9]+)")
 # The most characters of an original in a remark and in an explanation.
 LONG, SHORT = 900, 120

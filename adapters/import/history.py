@@ -91,7 +91,8 @@ def objects(text):
         try:
             value, end = decoder.raw_decode(text, place)
         except (ValueError, RecursionError):
-            bad(line, "it is not JSON, or it is cut. Write one JSON object on each line, and complete the last one")
+            form = "in one list, which ends with ]" if is_list else "on a line"
+            bad(line, f"it is not JSON, or it is cut. Write each JSON object whole, {form}")
         if not isinstance(value, dict):
             bad(line, "it is not a JSON object. Write the fields in { and }")
         yield line, value
