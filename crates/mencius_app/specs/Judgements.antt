@@ -3,9 +3,10 @@ use Rattle.std.specs.Prelude.{◌≡◌, ℕ, Bool, true, false, if◌then◌els
 use Rattle.mencius_io.specs.declared.fault.IoFault.{IoFault}
 use Rattle.mencius_judge.specs.declared.log_reader.Verdict.{Verdict}
 use Rattle.mencius_judge.specs.declared.log_reader.Verdict.TheVariants.{Kept, Unjudged, Broken}
-use Rattle.mencius_judge.specs.LogReader.{AreBad, ExplainsLine, IsVerdictOf}
-use Rattle.mencius_judge.specs.VerdictJson.{json_text}
-use Rattle.mencius_judge.specs.VerdictLines.{broken_line, explained_text, kept_line, unjudged_line}
+use Rattle.mencius_log.specs.BadLines.{ExplainsLine}
+use Rattle.mencius_judge.specs.LogReader.{AreBad, IsVerdictOf}
+use Rattle.mencius_verdict.specs.VerdictJson.{json_text}
+use Rattle.mencius_verdict.specs.VerdictLines.{broken_line, explained_text, kept_line, unjudged_line}
 use Rattle.mencius_app.specs.Tasks.{Task}
 
 -- the text that reports a verdict. A brief text has only the line of the verdict

@@ -9,10 +9,8 @@ ghost use Rattle.mencius_app.specs.Tasks.{IsOutput, Writes, streams};
 
 use crate::output::{Output, deliver};
 use mencius_io::{Failure, Sink, Source};
-use mencius_judge::{
-    Breach, Judgement, Verdict, judge_log, push_broken, push_explanation, push_json, push_kept,
-    push_unjudged,
-};
+use mencius_judge::{Breach, Judgement, Verdict, judge_log};
+use mencius_verdict::{push_broken, push_explanation, push_json, push_kept, push_unjudged};
 use std::alloc::{AllocError, Global};
 
 /// Judges the log from a reader as its bytes arrive, and writes the verdict. If a line of the log breaks a promise, it

@@ -1,4 +1,3 @@
-pub mod GrownTexts
 pub mod observations
 pub mod promises
 pub mod keys

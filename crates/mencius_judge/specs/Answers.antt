@@ -3,8 +3,8 @@ use Rattle.std.specs.Prelude.{◌≡◌, ℕ, Bool, true, false, not, List, Opti
 use Rattle.mencius_base.specs.declared.command.Op.{Op}
 use Rattle.mencius_base.specs.declared.command.Op.TheVariants.{Set, Get, Del, Cas}
 use Rattle.mencius_model.specs.KeyMap.{has_text}
-use Rattle.mencius_judge.specs.declared.observation.Answer.{Answer}
-use Rattle.mencius_judge.specs.declared.observation.Answer.TheVariants.{Held, Done, Failed}
+use Rattle.mencius_log.specs.declared.observation.Answer.{Answer}
+use Rattle.mencius_log.specs.declared.observation.Answer.TheVariants.{Held, Done, Failed}
 
 -- whether `ok` is right for an operation, if its key holds this text before it. A `cas` has to bind its key
 abbrev pub is_done : Op → Option (List ℕ) → Bool

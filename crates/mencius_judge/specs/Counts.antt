@@ -3,7 +3,7 @@ use Rattle.std.specs.Prelude.{ℕ, ◌≡◌, ◌+◌, ◌≤◌, is_some, lengt
 use Rattle.std.specs.List.{count_by}
 use Rattle.mencius_base.specs.Numbers.{ServerId}
 use Rattle.mencius_judge.specs.declared.counts.Counts.{Counts}
-use Rattle.mencius_judge.specs.declared.observation.Observation.TheVariants.{Submit, Execute, Reply, Lookup, Tell, Settle, Restore}
+use Rattle.mencius_log.specs.declared.observation.Observation.TheVariants.{Submit, Execute, Reply, Lookup, Tell, Settle, Restore}
 use Rattle.mencius_judge.specs.Log.{Log, acknowledged, command_of, has_id, history, reply_count, servers_of}
 
 -- the number of different identities of the submitted commands

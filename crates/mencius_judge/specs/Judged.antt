@@ -1,7 +1,7 @@
 -- The log that a judge has seen, and its verdict on the next observation.
 use Rattle.std.specs.Prelude.{◌≡◌, ◌∷◌, Option, Some, None}
 use Rattle.mencius_judge.specs.declared.judge.Judge.{Judge}
-use Rattle.mencius_judge.specs.declared.observation.Observation.{Observation}
+use Rattle.mencius_log.specs.declared.observation.Observation.{Observation}
 use Rattle.mencius_judge.specs.declared.quote.Quote.{Quote}
 use Rattle.mencius_judge.specs.declared.violation.Violation.{Violation}
 use Rattle.mencius_judge.specs.Counts.{command_count, lookup_count}

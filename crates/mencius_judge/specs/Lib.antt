@@ -11,13 +11,8 @@ pub mod Judged
 pub mod Added
 pub mod Laws
 pub mod Observed
-pub mod Lines
 pub mod Counts
 pub mod Linearization
-pub mod ObservationLines
-pub mod VerdictLines
-pub mod Sentences
-pub mod VerdictJson
 pub mod LogReader
 pub mod Written
 pub mod Taken

@@ -4,9 +4,9 @@ use Rattle.mencius_base.specs.Numbers.{ServerId}
 use Rattle.mencius_base.specs.declared.command.Command.{Command}
 use Rattle.mencius_base.specs.declared.command.CommandId.{CommandId}
 use Rattle.mencius_model.specs.KeyMap.{key_of}
-use Rattle.mencius_judge.specs.declared.observation.Answer.{Answer}
-use Rattle.mencius_judge.specs.declared.observation.Observation.{Observation}
-use Rattle.mencius_judge.specs.declared.observation.Observation.TheVariants.{Submit, Reply}
+use Rattle.mencius_log.specs.declared.observation.Answer.{Answer}
+use Rattle.mencius_log.specs.declared.observation.Observation.{Observation}
+use Rattle.mencius_log.specs.declared.observation.Observation.TheVariants.{Submit, Reply}
 use Rattle.mencius_judge.specs.declared.quote.Quote.{Quote}
 use Rattle.mencius_judge.specs.declared.violation.Violation.{Violation}
 use Rattle.mencius_judge.specs.declared.violation.Violation.TheVariants as violation

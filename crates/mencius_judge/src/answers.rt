@@ -4,10 +4,10 @@ ghost use Rattle.std.specs.Prelude.{◌≡◌, ◌↔◌, IfOk, IsTrue};
 ghost use Rattle.mencius_judge.specs.Answers.{IsRight, is_done, is_without_effect};
 ghost use Rattle.mencius_judge.specs.Log.{is_failed};
 
-use crate::observation::Answer;
 use crate::operations::has_text;
 use crate::texts::{copy_of, is_same_text};
 use mencius_base::{NoMemory, Op, Text};
+use mencius_log::Answer;
 
 /// Returns whether a reply is `failed`.
 pub fn is_failed(answer: &Answer) -> bool

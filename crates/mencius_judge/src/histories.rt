@@ -9,7 +9,7 @@ use mencius_base::{CommandId, NoMemory};
 use std::alloc::Global;
 
 /// How the next command of a server compares with the commands that other servers executed.
-#[derive(Clone, Copy, Debug, PartialEq, Eq)]
+#[derive(Clone, Copy)]
 pub enum Next {
     /// Another server executed the same command at this place.
     Follows,
@@ -20,14 +20,14 @@ pub enum Next {
 }
 
 /// The first execution at a place, with the server and the number of the line.
-#[derive(Clone, Copy, Debug, PartialEq, Eq)]
+#[derive(Clone, Copy)]
 pub struct Lead {
     pub server: u32,
     pub line: u64,
 }
 
 /// The commands that a server took over from another one, with the number of the line.
-#[derive(Clone, Copy, Debug, PartialEq, Eq)]
+#[derive(Clone, Copy)]
 pub struct Snapshot {
     pub line: u64,
     pub source: u32,

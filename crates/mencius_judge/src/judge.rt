@@ -1,7 +1,7 @@
 ghost use Rattle.std.specs.Prelude.{ℕ, ◌≡◌, ◌↔◌, [], ◌∷◌, Some, IsNone, IfOk, OnOk};
 ghost use Rattle.std.specs.BTreeMap.{Updates};
 ghost use Rattle.std.specs.Ordering.{nat_cmp};
-ghost use Rattle.mencius_judge.specs.declared.observation.Observation.TheVariants.{Execute, Lookup, Reply, Restore, Settle, Submit, Tell};
+ghost use Rattle.mencius_log.specs.declared.observation.Observation.TheVariants.{Execute, Lookup, Reply, Restore, Settle, Submit, Tell};
 ghost use Rattle.mencius_judge.specs.declared.histories.Next.TheVariants.{Differs, Leads};
 ghost use Rattle.mencius_judge.specs.Log.{Log};
 ghost use Rattle.mencius_judge.specs.Promises.{KeepsAll};
@@ -12,7 +12,6 @@ ghost use Rattle.mencius_judge.specs.Tables.{IsNext, floor_of, identity_key};
 use crate::answers::copy_of_answer;
 use crate::counts::{Counts, one_more};
 use crate::histories::{Histories, Next};
-use crate::observation::{Answer, Observation};
 use crate::operations::is_same_op;
 use crate::reply_checks::{other_reply, wrong_at_place, wrong_before};
 use crate::settled::{acknowledge, count_settled, first_unsettled, id_at, open_count};
@@ -20,6 +19,7 @@ use crate::texts::{copy_of, copy_of_key};
 use crate::timelines::Timelines;
 use crate::violation::Violation;
 use mencius_base::{Command, CommandId, Key, NoMemory, Text};
+use mencius_log::{Answer, Observation};
 use std::alloc::Global;
 use std::collections::BTreeMap;
 
@@ -72,7 +72,7 @@ pub struct Execution {
 
 /// The acknowledged commands that are known to be in the longest history. These are the first `count` acknowledged
 /// commands, and `highest` is the highest of their places.
-#[derive(Clone, Copy, Debug, PartialEq, Eq)]
+#[derive(Clone, Copy)]
 pub struct SettledCommands {
     pub count: usize,
     pub highest: usize,

@@ -1,8 +1,8 @@
 ghost use Rattle.std.specs.Prelude.{OnOk};
 ghost use Rattle.mencius_judge.specs.Added.{Inserts};
 
-use crate::observation::Observation;
 use mencius_base::NoMemory;
+use mencius_log::Observation;
 
 /// A line of a log that has an observation.
 #[derive(Debug, Drop)]

@@ -14,11 +14,11 @@ ghost use Rattle.mencius_judge.specs.Timelines.{AreTimelines};
 
 use crate::answers::{copy_of_answer, is_right, is_same_answer};
 use crate::judge::{Execution, FirstReply};
-use crate::observation::Answer;
 use crate::texts::copy_of;
 use crate::timelines::Timelines;
 use crate::violation::Violation;
 use mencius_base::{Command, CommandId, NoMemory, Text};
+use mencius_log::Answer;
 use std::collections::BTreeMap;
 
 // Judges a reply to a command at a place of the longest history. Its key holds the text `held` there.

@@ -7,8 +7,8 @@ ghost use Rattle.mencius_judge.specs.Tables.{AreSettled, IsNotSettledAt, IsPlace
 
 use crate::answers::is_failed;
 use crate::judge::{Execution, SettledCommands, identity_key};
-use crate::observation::Answer;
 use mencius_base::{CommandId, NoMemory};
+use mencius_log::Answer;
 use std::collections::BTreeMap;
 
 // Adds a command to the acknowledged commands if its first reply is not `failed`.

@@ -9,7 +9,7 @@ use std::collections::BTreeMap;
 
 /// A range of numbers of commands after which a key held one text. It goes from `first` up to, but not including,
 /// `stop`.
-#[derive(Clone, Copy, Debug)]
+#[derive(Clone, Copy)]
 pub struct Period {
     pub first: usize,
     pub stop: usize,

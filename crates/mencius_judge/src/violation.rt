@@ -1,8 +1,8 @@
 ghost use Rattle.std.specs.Prelude.{◌≡◌};
 ghost use Rattle.mencius_judge.specs.Violations.{promise_of};
 
-use crate::observation::Answer;
 use mencius_base::{CommandId, Key, Text};
+use mencius_log::Answer;
 
 /// A promise of a store.
 #[derive(Clone, Copy, Debug, PartialEq, Eq)]

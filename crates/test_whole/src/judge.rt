@@ -1,7 +1,8 @@
 //! Tests of logs, line by line. They check the meaning of a line, and the first line that breaks a promise.
 
 use crate::same::assert_same;
-use mencius_judge::{Judge, Observation, Promise, parse_line};
+use mencius_judge::{Judge, Promise};
+use mencius_log::{Observation, parse_line};
 use std::alloc::Global;
 use std::process::Abort;
 use std::test::Fail;

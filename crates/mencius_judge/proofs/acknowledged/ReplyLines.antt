@@ -6,8 +6,8 @@ use Rattle.std.specs.BTreeMap.{Updates, get}
 use Rattle.mencius_base.specs.Command.{is_same_id}
 use Rattle.mencius_base.specs.declared.command.CommandId.{CommandId}
 use Rattle.mencius_judge.specs.declared.judge.FirstReply.{FirstReply}
-use Rattle.mencius_judge.specs.declared.observation.Answer.{Answer}
-use Rattle.mencius_judge.specs.declared.observation.Observation.TheVariants.{Reply}
+use Rattle.mencius_log.specs.declared.observation.Answer.{Answer}
+use Rattle.mencius_log.specs.declared.observation.Observation.TheVariants.{Reply}
 use Rattle.mencius_judge.specs.Log.{Log, acknowledged, is_failed, reply_of}
 use Rattle.mencius_judge.specs.Promises.{AreOneReply}
 use Rattle.mencius_judge.specs.Tables.{AreReplies, Replies, identity_key, number_count}

@@ -8,8 +8,8 @@ use Rattle.mencius_judge.specs.declared.judge.Execution.{Execution}
 use Rattle.mencius_judge.specs.declared.judge.FirstReply.{FirstReply}
 use Rattle.mencius_judge.specs.declared.judge.Judge.{Judge}
 use Rattle.mencius_judge.specs.declared.judge.Submission.{Submission}
-use Rattle.mencius_judge.specs.declared.observation.Answer.{Answer}
-use Rattle.mencius_judge.specs.declared.observation.Observation.TheVariants.{Reply}
+use Rattle.mencius_log.specs.declared.observation.Answer.{Answer}
+use Rattle.mencius_log.specs.declared.observation.Observation.TheVariants.{Reply}
 use Rattle.mencius_judge.specs.declared.quote.Quote.{Quote}
 use Rattle.mencius_judge.specs.declared.violation.Violation.{Violation}
 use Rattle.mencius_judge.specs.declared.violation.Violation.TheVariants as violation

@@ -6,7 +6,7 @@ use Rattle.mencius_base.specs.Numbers.{ServerId}
 use Rattle.mencius_base.specs.declared.command.CommandId.{CommandId}
 use Rattle.mencius_judge.specs.declared.judge.Judge.{Judge}
 use Rattle.mencius_judge.specs.declared.judge.SettledCommands.{SettledCommands}
-use Rattle.mencius_judge.specs.declared.observation.Observation.TheVariants.{Settle}
+use Rattle.mencius_log.specs.declared.observation.Observation.TheVariants.{Settle}
 use Rattle.mencius_judge.specs.declared.violation.Violation.TheVariants as violation
 use Rattle.mencius_judge.specs.Judged.{Breaks, HasSeen}
 use Rattle.mencius_judge.specs.Quotes.{NumberedLog, log_of}

@@ -9,7 +9,7 @@ use Rattle.std.proofs.lemmas.Option.{slice_get_within}
 use Rattle.mencius_base.specs.declared.command.CommandId.{CommandId}
 use Rattle.mencius_judge.specs.declared.histories.Row.{Row}
 use Rattle.mencius_judge.specs.declared.judge.Execution.{Execution}
-use Rattle.mencius_judge.specs.declared.observation.Observation.TheVariants.{Settle}
+use Rattle.mencius_log.specs.declared.observation.Observation.TheVariants.{Settle}
 use Rattle.mencius_judge.specs.declared.places.Places.{Places}
 use Rattle.mencius_judge.specs.Log.{Log, acknowledged, command_of, has_id, history}
 use Rattle.mencius_judge.specs.Promises.{WereSettled}

@@ -24,14 +24,14 @@ use Rattle.mencius_format.proofs.OperationWords.{both_hold, most_op_bytes, op_st
 use Rattle.mencius_format.proofs.PlainWords.{ArePlain, is_plain}
 use Rattle.mencius_format.proofs.TextWords.{commands_read_back}
 use Rattle.mencius_format.proofs.WrittenWords.{Lacks, cut_at, lacks_append, lacks_dot, lacks_space, name_again, named_lacks, number_again, uncut}
-use Rattle.mencius_judge.specs.declared.observation.Answer.{Answer}
-use Rattle.mencius_judge.specs.declared.observation.Answer.TheVariants.{Held, Done, Failed}
-use Rattle.mencius_judge.specs.declared.observation.Observation.{Observation}
-use Rattle.mencius_judge.specs.declared.observation.Observation.TheVariants.{Submit, Execute, Reply, Lookup, Tell, Settle, Restore}
+use Rattle.mencius_log.specs.declared.observation.Answer.{Answer}
+use Rattle.mencius_log.specs.declared.observation.Answer.TheVariants.{Held, Done, Failed}
+use Rattle.mencius_log.specs.declared.observation.Observation.{Observation}
+use Rattle.mencius_log.specs.declared.observation.Observation.TheVariants.{Submit, Execute, Reply, Lookup, Tell, Settle, Restore}
 use Rattle.mencius_judge.specs.declared.quote.Quote.{Quote}
-use Rattle.mencius_judge.specs.Lines.{answer_of, is_answer_within, is_passed_over, is_reply_within, line_said, most_line_bytes, observation_of, is_observation_within, reply_answer_of, without_return}
+use Rattle.mencius_log.specs.Lines.{answer_of, is_answer_within, is_passed_over, is_reply_within, line_said, most_line_bytes, observation_of, is_observation_within, reply_answer_of, without_return}
 use Rattle.mencius_judge.specs.LogReader.{AddsLine, IsInLine}
-use Rattle.mencius_judge.specs.ObservationLines.{answer_text, held_text, observation_line, observation_text}
+use Rattle.mencius_log.specs.ObservationLines.{answer_text, held_text, observation_line, observation_text}
 use Rattle.mencius_judge.specs.Written.{IsAnswer, IsIdentity, IsReplySayable, IsSayable, LogsReadBack, ObservationsReadBack}
 
 -- ---- words

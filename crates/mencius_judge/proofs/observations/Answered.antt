@@ -10,8 +10,8 @@ use Rattle.mencius_model.specs.KeyMap.{out}
 use Rattle.mencius_judge.specs.declared.judge.Execution.{Execution}
 use Rattle.mencius_judge.specs.declared.judge.FirstReply.{FirstReply}
 use Rattle.mencius_judge.specs.declared.judge.Submission.{Submission}
-use Rattle.mencius_judge.specs.declared.observation.Answer.{Answer}
-use Rattle.mencius_judge.specs.declared.observation.Observation.TheVariants.{Reply}
+use Rattle.mencius_log.specs.declared.observation.Answer.{Answer}
+use Rattle.mencius_log.specs.declared.observation.Observation.TheVariants.{Reply}
 use Rattle.mencius_judge.specs.Answers.{IsRight}
 use Rattle.mencius_judge.specs.Log.{Log, command_of, commands_of, has_id, reply_of}
 use Rattle.mencius_judge.specs.Promises.{AreOneReply}

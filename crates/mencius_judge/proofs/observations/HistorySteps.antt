@@ -12,7 +12,7 @@ use Rattle.mencius_model.proofs.trace.Prefixes.{prefix_append, prefix_either, pr
 use Rattle.mencius_model.proofs.replies.RepliesAfterEvents.{slice_get-append}
 use Rattle.mencius_judge.specs.declared.histories.Row.{Row}
 use Rattle.mencius_judge.specs.declared.histories.Snapshot.{Snapshot}
-use Rattle.mencius_judge.specs.declared.observation.Observation.TheVariants.{Submit, Execute, Reply, Lookup, Tell, Settle, Restore}
+use Rattle.mencius_log.specs.declared.observation.Observation.TheVariants.{Submit, Execute, Reply, Lookup, Tell, Settle, Restore}
 use Rattle.mencius_judge.specs.declared.places.Places.{Places}
 use Rattle.mencius_judge.specs.Log.{Log, has_id, history, servers_of}
 use Rattle.mencius_judge.specs.Promises.{AreComparable, StandOnce, WereRestored}

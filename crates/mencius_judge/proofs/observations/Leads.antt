@@ -14,7 +14,7 @@ use Rattle.mencius_judge.specs.declared.judge.Judge.{Judge}
 use Rattle.mencius_judge.specs.declared.judge.Submission.{Submission}
 use Rattle.mencius_judge.specs.declared.places.Places.{Places}
 use Rattle.mencius_judge.specs.declared.timeline.Timeline.{Timeline}
-use Rattle.mencius_judge.specs.declared.observation.Observation.TheVariants.{Execute, Reply}
+use Rattle.mencius_log.specs.declared.observation.Observation.TheVariants.{Execute, Reply}
 use Rattle.mencius_judge.specs.declared.violation.Violation.TheVariants.{RightReply}
 use Rattle.mencius_judge.specs.Answers.{IsRight}
 use Rattle.mencius_judge.specs.Judged.{Breaks, HasSeenLog}

@@ -6,8 +6,8 @@ use Rattle.mencius_base.specs.declared.command.Command.{Command}
 use Rattle.mencius_base.specs.declared.command.CommandId.{CommandId}
 use Rattle.mencius_model.specs.KeyMap.{out}
 use Rattle.mencius_judge.specs.declared.histories.Row.{Row}
-use Rattle.mencius_judge.specs.declared.observation.Answer.{Answer}
-use Rattle.mencius_judge.specs.declared.observation.Observation.TheVariants.{Submit, Execute, Reply}
+use Rattle.mencius_log.specs.declared.observation.Answer.{Answer}
+use Rattle.mencius_log.specs.declared.observation.Observation.TheVariants.{Submit, Execute, Reply}
 use Rattle.mencius_judge.specs.declared.places.Places.{Places}
 use Rattle.mencius_judge.specs.Answers.{IsRight}
 use Rattle.mencius_judge.specs.Log.{Log, acknowledged_before, command_of, commands_of, has_id, history}

@@ -4,8 +4,8 @@ use Rattle.std.specs.BTreeMap.{BTreeMap}
 use Rattle.mencius_judge.specs.declared.histories.Histories.{Histories}
 use Rattle.mencius_judge.specs.declared.judge.Judge.{Judge}
 use Rattle.mencius_judge.specs.declared.judge.SettledCommands.{SettledCommands}
-use Rattle.mencius_judge.specs.declared.observation.Observation.{Observation}
-use Rattle.mencius_judge.specs.declared.observation.Observation.TheVariants.{Submit, Reply}
+use Rattle.mencius_log.specs.declared.observation.Observation.{Observation}
+use Rattle.mencius_log.specs.declared.observation.Observation.TheVariants.{Submit, Reply}
 use Rattle.mencius_judge.specs.Counts.{lookup_count}
 use Rattle.mencius_judge.specs.Judged.{HasSeenLog}
 use Rattle.mencius_judge.specs.Log.{Log, commands_of}

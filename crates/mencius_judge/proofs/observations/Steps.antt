@@ -10,8 +10,8 @@ use Rattle.mencius_base.specs.declared.command.CommandId.{CommandId}
 use Rattle.mencius_model.specs.KeyMap.{out}
 use Rattle.mencius_judge.specs.declared.judge.Execution.{Execution}
 use Rattle.mencius_judge.specs.declared.judge.Submission.{Submission}
-use Rattle.mencius_judge.specs.declared.observation.Answer.{Answer}
-use Rattle.mencius_judge.specs.declared.observation.Observation.TheVariants.{Submit, Execute, Reply}
+use Rattle.mencius_log.specs.declared.observation.Answer.{Answer}
+use Rattle.mencius_log.specs.declared.observation.Observation.TheVariants.{Submit, Execute, Reply}
 use Rattle.mencius_judge.specs.Log.{Log, acknowledged, command_of, commands_of, has_id, is_failed}
 use Rattle.mencius_judge.specs.Promises.{AreOneCommand, AreOneReply, WereSubmitted}
 use Rattle.mencius_judge.specs.Tables.{AreExecutions, AreReplies, AreSettled, AreSubmissions, Executions, IsOrder, Replies, identity_key, number_count}

@@ -5,7 +5,7 @@ use Rattle.std.specs.BTreeMap.{BTreeMap}
 use Rattle.mencius_base.specs.declared.command.Command.{Command}
 use Rattle.mencius_base.specs.declared.command.CommandId.{CommandId}
 use Rattle.mencius_judge.specs.declared.timeline.Timeline.{Timeline}
-use Rattle.mencius_judge.specs.declared.observation.Observation.TheVariants.{Submit}
+use Rattle.mencius_log.specs.declared.observation.Observation.TheVariants.{Submit}
 use Rattle.mencius_judge.specs.Log.{Log, command_of, commands_of}
 use Rattle.mencius_judge.specs.Promises.{AreOneCommand}
 use Rattle.mencius_judge.specs.Tables.{IsOrder}

@@ -5,7 +5,7 @@ use Rattle.mencius_base.specs.declared.command.Command.{Command}
 use Rattle.mencius_base.specs.declared.command.CommandId.{CommandId}
 use Rattle.mencius_judge.specs.declared.counts.Counts.{Counts}
 use Rattle.mencius_judge.specs.declared.judge.Judge.{Judge}
-use Rattle.mencius_judge.specs.declared.observation.Observation.TheVariants.{Submit}
+use Rattle.mencius_log.specs.declared.observation.Observation.TheVariants.{Submit}
 use Rattle.mencius_judge.specs.Counts.{AreCounts, command_count, least_of}
 use Rattle.mencius_judge.specs.Judged.{HasSeenLog}
 use Rattle.mencius_judge.specs.Log.{Log, acknowledged, command_of, has_id, history, servers_of}

@@ -12,7 +12,7 @@ use Rattle.mencius_judge.specs.declared.histories.Row.{Row}
 use Rattle.mencius_judge.specs.declared.judge.FirstReply.{FirstReply}
 use Rattle.mencius_judge.specs.declared.judge.Submission.{Submission}
 use Rattle.mencius_judge.specs.Promises.{AreOneCommand, AreOneReply}
-use Rattle.mencius_judge.specs.declared.observation.Observation.TheVariants.{Reply, Submit}
+use Rattle.mencius_log.specs.declared.observation.Observation.TheVariants.{Reply, Submit}
 use Rattle.mencius_judge.specs.declared.places.Places.{Places}
 use Rattle.mencius_judge.specs.Log.{has_id}
 use Rattle.mencius_judge.specs.Tables.{AreExecutions, AreFloors, floor_of, AreHistories, AreReplies, AreSettled, AreSubmissions, Executions, IsOrder, Replies, identity_key}

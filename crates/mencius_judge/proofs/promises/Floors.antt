@@ -8,7 +8,7 @@ use Rattle.std.proofs.lemmas.List.{length-take}
 use Rattle.mencius_base.specs.declared.command.Command.{Command}
 use Rattle.mencius_base.specs.declared.command.CommandId.{CommandId}
 use Rattle.mencius_model.specs.KeyMap.{value_at}
-use Rattle.mencius_judge.specs.declared.observation.Observation.TheVariants.{Lookup, Tell}
+use Rattle.mencius_log.specs.declared.observation.Observation.TheVariants.{Lookup, Tell}
 use Rattle.mencius_judge.specs.Log.{Log, MaySee, command_of, commands_of, history}
 use Rattle.mencius_judge.specs.Promises.{AreRightLookups}
 use Rattle.mencius_judge.specs.Rows.{count_of}

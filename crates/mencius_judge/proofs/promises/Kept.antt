@@ -7,8 +7,8 @@ use Rattle.mencius_model.specs.Executed.{IsComparable, IsPrefix}
 use Rattle.mencius_model.specs.KeyMap.{out, value_at}
 use Rattle.mencius_model.proofs.trace.Prefixes.{prefix_either, prefix_empty, prefix_self, prefix_trans}
 use Rattle.mencius_judge.specs.declared.judge.Judge.{Judge}
-use Rattle.mencius_judge.specs.declared.observation.Observation.{Observation}
-use Rattle.mencius_judge.specs.declared.observation.Observation.TheVariants.{Submit, Execute, Reply, Lookup, Tell, Settle, Restore}
+use Rattle.mencius_log.specs.declared.observation.Observation.{Observation}
+use Rattle.mencius_log.specs.declared.observation.Observation.TheVariants.{Submit, Execute, Reply, Lookup, Tell, Settle, Restore}
 use Rattle.mencius_judge.specs.declared.violation.Promise.{Promise}
 use Rattle.mencius_judge.specs.declared.violation.Promise.TheVariants.{OneCommand, Submitted, Once, SameOrder, RealTime, OneReply, RightReply, RightLookup, Settled}
 use Rattle.mencius_judge.specs.declared.violation.Promise.TheVariants as promise

@@ -10,7 +10,7 @@ use Rattle.mencius_judge.specs.declared.histories.Row.{Row}
 use Rattle.mencius_judge.specs.declared.histories.Snapshot.{Snapshot}
 use Rattle.mencius_judge.specs.declared.judge.FirstReply.{FirstReply}
 use Rattle.mencius_judge.specs.declared.judge.Submission.{Submission}
-use Rattle.mencius_judge.specs.declared.observation.Observation.TheVariants.{Execute, Restore}
+use Rattle.mencius_log.specs.declared.observation.Observation.TheVariants.{Execute, Restore}
 use Rattle.mencius_judge.specs.declared.places.Places.{Places}
 use Rattle.mencius_judge.specs.declared.quote.Quote.{Quote}
 use Rattle.mencius_judge.specs.Log.{command_of, history, reply_of, servers_of}

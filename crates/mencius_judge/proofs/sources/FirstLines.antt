@@ -1,7 +1,7 @@
 -- The first line with a property, in a log with a further line.
 use Rattle.std.proofs.Common.{◌≡◌, ◌⊎◌, inl, inr, [], ◌∷◌, ◌++◌, refl, sym, subst, ap, ◌∙◌}
 use Rattle.std.specs.List.{Contains}
-use Rattle.mencius_judge.specs.declared.observation.Observation.{Observation}
+use Rattle.mencius_log.specs.declared.observation.Observation.{Observation}
 use Rattle.mencius_judge.specs.declared.quote.Quote.{Quote}
 use Rattle.mencius_judge.specs.Quotes.{IsFirstLine, NumberedLog}
 use Rattle.mencius_judge.proofs.sources.Places.{contains_middle, not_empty, same_head, same_tail}

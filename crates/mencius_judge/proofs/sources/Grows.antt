@@ -2,8 +2,8 @@
 use Rattle.std.proofs.Common.{◌≡◌, ℕ, ◌≤◌, Bool, true, false, cond, eqb, [], ◌∷◌, ◌++◌, length, take, arith, refl, sym, ap, ◌∙◌, length-append}
 use Rattle.std.proofs.lemmas.Bool.{eq-eqb, eqb-true}
 use Rattle.mencius_base.specs.declared.command.CommandId.{CommandId}
-use Rattle.mencius_judge.specs.declared.observation.Observation.{Observation}
-use Rattle.mencius_judge.specs.declared.observation.Observation.TheVariants.{Submit, Execute, Reply, Lookup, Tell, Settle, Restore}
+use Rattle.mencius_log.specs.declared.observation.Observation.{Observation}
+use Rattle.mencius_log.specs.declared.observation.Observation.TheVariants.{Submit, Execute, Reply, Lookup, Tell, Settle, Restore}
 use Rattle.mencius_judge.specs.Log.{Log, history}
 use Rattle.mencius_judge.specs.Promises.{WereRestored}
 use Rattle.mencius_judge.specs.Quotes.{NumberedLog, log_of}

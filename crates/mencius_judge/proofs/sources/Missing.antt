@@ -2,7 +2,7 @@
 use Rattle.std.proofs.Common.{◌≡◌, true, Option, Some, None, is_some, subst}
 use Rattle.std.specs.List.{Contains}
 use Rattle.mencius_base.specs.declared.command.CommandId.{CommandId}
-use Rattle.mencius_judge.specs.declared.observation.Observation.TheVariants.{Submit, Reply}
+use Rattle.mencius_log.specs.declared.observation.Observation.TheVariants.{Submit, Reply}
 use Rattle.mencius_judge.specs.declared.quote.Quote.{Quote}
 use Rattle.mencius_judge.specs.Log.{command_of, reply_of}
 use Rattle.mencius_judge.specs.Quotes.{NumberedLog, Replies as IsReplyTo, Submits, log_of}

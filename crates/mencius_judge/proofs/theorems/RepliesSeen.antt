@@ -10,10 +10,10 @@ use Rattle.mencius_base.specs.declared.command.CommandId.{CommandId}
 use Rattle.mencius_model.specs.Executed.{IsComparable, IsPrefix}
 use Rattle.mencius_model.specs.KeyMap.{out}
 use Rattle.mencius_model.proofs.trace.Prefixes.{prefix_self}
-use Rattle.mencius_judge.specs.declared.observation.Answer.{Answer}
-use Rattle.mencius_judge.specs.declared.observation.Answer.TheVariants.{Held}
-use Rattle.mencius_judge.specs.declared.observation.Observation.{Observation}
-use Rattle.mencius_judge.specs.declared.observation.Observation.TheVariants.{Submit, Execute, Reply, Lookup, Tell, Settle, Restore}
+use Rattle.mencius_log.specs.declared.observation.Answer.{Answer}
+use Rattle.mencius_log.specs.declared.observation.Answer.TheVariants.{Held}
+use Rattle.mencius_log.specs.declared.observation.Observation.{Observation}
+use Rattle.mencius_log.specs.declared.observation.Observation.TheVariants.{Submit, Execute, Reply, Lookup, Tell, Settle, Restore}
 use Rattle.mencius_judge.specs.Answers.{IsRight}
 use Rattle.mencius_judge.specs.Log.{Log, acknowledged, acknowledged_before, command_of, commands_of, has_id, history, is_failed}
 use Rattle.mencius_judge.specs.Promises.{AreComparable, AreOneReply, AreRightReplies, StandBehindReplies, StandOnce, WereRestored, WereSettled, WereSubmitted}

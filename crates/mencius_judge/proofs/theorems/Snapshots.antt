@@ -4,7 +4,7 @@ use Rattle.std.proofs.lemmas.Bool.{cases_eq}
 use Rattle.mencius_base.specs.Numbers.{ServerId}
 use Rattle.mencius_model.specs.Executed.{IsPrefix}
 use Rattle.mencius_model.proofs.trace.Prefixes.{prefix_self, take_begins}
-use Rattle.mencius_judge.specs.declared.observation.Observation.TheVariants.{Restore}
+use Rattle.mencius_log.specs.declared.observation.Observation.TheVariants.{Restore}
 use Rattle.mencius_judge.specs.Log.{Log, history}
 use Rattle.mencius_judge.specs.Promises.{KeepsAll}
 use Rattle.mencius_judge.proofs.observations.HistorySteps.{not_taken_over, taken_over}

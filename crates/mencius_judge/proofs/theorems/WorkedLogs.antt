@@ -9,9 +9,9 @@ use Rattle.mencius_base.specs.declared.command.Op.TheVariants.{Set, Get, Del, Ca
 use Rattle.mencius_model.specs.Executed.{IsComparable, IsPrefix}
 use Rattle.mencius_model.specs.KeyMap.{has_text, out, value_at}
 use Rattle.mencius_model.proofs.worked.WorkedSchedules.{nothing, set_a, text_x}
-use Rattle.mencius_judge.specs.declared.observation.Answer.{Answer}
-use Rattle.mencius_judge.specs.declared.observation.Answer.TheVariants.{Held, Done, Failed}
-use Rattle.mencius_judge.specs.declared.observation.Observation.TheVariants.{Submit, Execute, Reply, Lookup, Settle, Restore}
+use Rattle.mencius_log.specs.declared.observation.Answer.{Answer}
+use Rattle.mencius_log.specs.declared.observation.Answer.TheVariants.{Held, Done, Failed}
+use Rattle.mencius_log.specs.declared.observation.Observation.TheVariants.{Submit, Execute, Reply, Lookup, Settle, Restore}
 use Rattle.mencius_judge.specs.Answers.{IsRight}
 use Rattle.mencius_judge.specs.Log.{Log, MaySee, acknowledged, acknowledged_before, command_of, commands_of, has_id, history, reply_count, reply_of, servers_of}
 use Rattle.mencius_judge.specs.Promises.{AreComparable, AreOneCommand, AreOneReply, AreRightLookups, AreRightReplies, StandBehindReplies, StandOnce, WasJudged, WereRestored, WereSettled, WereSubmitted}

@@ -9,9 +9,9 @@ use Rattle.mencius_base.specs.declared.command.CommandId.{CommandId}
 use Rattle.mencius_base.specs.declared.command.Op.TheVariants.{Cas}
 use Rattle.mencius_model.specs.KeyMap.{map_after, out}
 use Rattle.mencius_model.proofs.worked.WorkedSchedules.{set_a, get_a, nothing}
-use Rattle.mencius_judge.specs.declared.observation.Answer.{Answer}
-use Rattle.mencius_judge.specs.declared.observation.Answer.TheVariants.{Held, Done, Failed}
-use Rattle.mencius_judge.specs.declared.observation.Observation.TheVariants.{Submit, Reply}
+use Rattle.mencius_log.specs.declared.observation.Answer.{Answer}
+use Rattle.mencius_log.specs.declared.observation.Answer.TheVariants.{Held, Done, Failed}
+use Rattle.mencius_log.specs.declared.observation.Observation.TheVariants.{Submit, Reply}
 use Rattle.mencius_judge.specs.Answers.{IsRight}
 use Rattle.mencius_judge.specs.Linearization.{IsLinearization}
 use Rattle.mencius_judge.specs.Log.{Log, command_of, commands_of, has_id}

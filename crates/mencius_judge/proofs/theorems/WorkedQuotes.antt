@@ -7,9 +7,9 @@ use Rattle.mencius_base.specs.declared.command.Command.{Command}
 use Rattle.mencius_base.specs.declared.command.CommandId.{CommandId}
 use Rattle.mencius_base.specs.declared.command.Op.TheVariants.{Set}
 use Rattle.mencius_model.proofs.worked.WorkedSchedules.{nothing, set_a, text_x}
-use Rattle.mencius_judge.specs.declared.observation.Answer.TheVariants.{Held, Done, Failed}
-use Rattle.mencius_judge.specs.declared.observation.Observation.{Observation}
-use Rattle.mencius_judge.specs.declared.observation.Observation.TheVariants.{Submit, Execute, Reply, Lookup, Tell, Settle, Restore}
+use Rattle.mencius_log.specs.declared.observation.Answer.TheVariants.{Held, Done, Failed}
+use Rattle.mencius_log.specs.declared.observation.Observation.{Observation}
+use Rattle.mencius_log.specs.declared.observation.Observation.TheVariants.{Submit, Execute, Reply, Lookup, Tell, Settle, Restore}
 use Rattle.mencius_judge.specs.declared.quote.Quote.{Quote}
 use Rattle.mencius_judge.specs.declared.violation.Violation.{Violation}
 use Rattle.mencius_judge.specs.declared.violation.Violation.TheVariants as violation

@@ -1,5 +1,5 @@
-use Rattle.mencius_judge.specs.declared.observation.Observation.{Observation}
-use Rattle.mencius_judge.specs.declared.observation.Observation.TheVariants.{Execute}
+use Rattle.mencius_log.specs.declared.observation.Observation.{Observation}
+use Rattle.mencius_log.specs.declared.observation.Observation.TheVariants.{Execute}
 use Rattle.mencius_judge.specs.Quotes.{log_of}
 use Rattle.mencius_judge.specs.Rows.{count_of}
 use Rattle.mencius_judge.proofs.observations.HistorySteps.{follows}

@@ -1,8 +1,8 @@
 use Rattle.std.proofs.Common.{◌≡◌, ◌+◌, ℕ, Some, ap, ap₂, length, refl, sym, subst, ◌∙◌}
 use Rattle.std.specs.BTreeMap.{Updates}
 use Rattle.std.specs.Ordering.{nat_cmp}
-use Rattle.mencius_judge.specs.declared.observation.Observation.{Observation}
-use Rattle.mencius_judge.specs.declared.observation.Observation.TheVariants.{Lookup}
+use Rattle.mencius_log.specs.declared.observation.Observation.{Observation}
+use Rattle.mencius_log.specs.declared.observation.Observation.TheVariants.{Lookup}
 use Rattle.mencius_judge.specs.Log.{commands_of}
 use Rattle.mencius_judge.specs.Quotes.{log_of}
 use Rattle.mencius_judge.specs.Tables.{floor_of}

@@ -1,6 +1,6 @@
 use Rattle.std.proofs.Common.{ℕ, rules, Option, Result, Ok, Err, IfOk, IsNone, ◌∷◌, ◌↔◌}
 use Rattle.mencius_judge.specs.declared.judge.Judge.{Judge}
-use Rattle.mencius_judge.specs.declared.observation.Observation.{Observation}
+use Rattle.mencius_log.specs.declared.observation.Observation.{Observation}
 use Rattle.mencius_judge.specs.declared.violation.Violation.{Violation}
 use Rattle.mencius_judge.specs.Judged.{HasSeen, IsJudged}
 use Rattle.mencius_judge.specs.Promises.{KeepsAll}

@@ -1,5 +1,5 @@
 use Rattle.std.proofs.Common.{◌≡◌, List, [], rules, subst, ap}
-use Rattle.mencius_judge.specs.declared.observation.Observation.{Observation}
+use Rattle.mencius_log.specs.declared.observation.Observation.{Observation}
 use Rattle.mencius_judge.specs.declared.quote.Quote.{Quote}
 use Rattle.mencius_judge.specs.Added.{Inserts}
 use Rattle.mencius_judge.proofs.quoting.Whole.{are_quotes, own_there}

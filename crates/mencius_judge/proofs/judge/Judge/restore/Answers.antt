@@ -1,7 +1,7 @@
 use Rattle.std.proofs.Common.{Global, Vec, ◌≡◌, ◌≢◌, ◌<◌, ◌≤◌, [], Some, ap, arith, inl, inr, length, refl, sym, ◌∙◌}
 use Rattle.mencius_judge.specs.declared.histories.Row.{Row}
-use Rattle.mencius_judge.specs.declared.observation.Observation.{Observation}
-use Rattle.mencius_judge.specs.declared.observation.Observation.TheVariants.{Restore}
+use Rattle.mencius_log.specs.declared.observation.Observation.{Observation}
+use Rattle.mencius_log.specs.declared.observation.Observation.TheVariants.{Restore}
 use Rattle.mencius_judge.specs.Log.{history}
 use Rattle.mencius_judge.specs.Quotes.{log_of}
 use Rattle.mencius_judge.specs.Rows.{count_of}

@@ -3,8 +3,8 @@ use Rattle.std.specs.BTreeMap.{Updates, get}
 use Rattle.std.specs.Ordering.{nat_cmp}
 use Rattle.mencius_base.specs.declared.command.Command.{Command}
 use Rattle.mencius_judge.specs.declared.judge.Submission.{Submission}
-use Rattle.mencius_judge.specs.declared.observation.Observation.{Observation}
-use Rattle.mencius_judge.specs.declared.observation.Observation.TheVariants.{Submit}
+use Rattle.mencius_log.specs.declared.observation.Observation.{Observation}
+use Rattle.mencius_log.specs.declared.observation.Observation.TheVariants.{Submit}
 use Rattle.mencius_judge.specs.declared.quote.Quote.{Quote}
 use Rattle.mencius_judge.specs.Log.{acknowledged, command_of}
 use Rattle.mencius_judge.specs.Quotes.{log_of}

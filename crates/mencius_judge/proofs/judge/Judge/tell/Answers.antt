@@ -1,7 +1,7 @@
 use Rattle.std.proofs.Common.{◌≡◌, Some, arith, length, max, refl, subst}
 use Rattle.std.specs.BTreeMap.{Updates}
 use Rattle.std.specs.Ordering.{nat_cmp}
-use Rattle.mencius_judge.specs.declared.observation.Observation.TheVariants.{Tell}
+use Rattle.mencius_log.specs.declared.observation.Observation.TheVariants.{Tell}
 use Rattle.mencius_judge.specs.Log.{history}
 use Rattle.mencius_judge.specs.Quotes.{log_of}
 use Rattle.mencius_judge.specs.Tables.{floor_of}

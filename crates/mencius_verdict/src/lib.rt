@@ -1,0 +1,10 @@
+//! The text that reports a verdict on a log: its line, the lines of the log that show it, a sentence that explains it, and
+//! all of this as one JSON object.
+#![tactic(auto)]
+
+mod sentences;
+mod verdict_json;
+mod verdict_lines;
+
+pub use verdict_json::push_json;
+pub use verdict_lines::{push_broken, push_explanation, push_kept, push_unjudged};
