@@ -12,12 +12,15 @@ TRACE_KINDS = frozenset({"event", "refused", "promises", "acceptances", "ignored
                          "executed", "reply"})
 CLOSING = re.compile(r"server \d+ front \d+ executed |unheard ")
 REPORT_BEGIN = re.compile(r"servers \d+ messages |server \d+ front \d+ done ")
-REPORT_REFUSAL = re.compile(r"refused \d+( |$)")
+REPORT_REFUSAL = re.compile(r"refused \d+(\s|$)")
 REPORT_KINDS = frozenset({"refused", "servers", "server", "reply"})
 
 # The sorts of a difference.
-LINES, REPORT, CRASH, HANG, FLOOD, SILENCE, NO_FORMAT = (
-    "lines", "report", "crash", "hang", "flood", "silence", "no format")
+LINES, REPORT, CRASH, HANG, FLOOD, SILENCE, NO_FORMAT, NO_ANSWER = (
+    "lines", "report", "crash", "hang", "flood", "silence", "no format", "no answer")
+# In these sorts, the store printed lines that can be compared.
+COMPARED = (LINES, REPORT)
+FIRST_LINES = 5  # lines of an output that has no format
 
 
 @dataclasses.dataclass
@@ -34,17 +37,32 @@ class Texts:
 
 @dataclasses.dataclass
 class Difference:
-    """The first difference of a store: its sort, its description, the index of the event (None if it is not known), and
-    the lines that should agree."""
+    """The first difference of a store: its sort, its description, the index of the event (None if it is not known), the
+    lines that should agree, and the lines of standard error, if the store failed."""
     about: str
     words: str
     event: int = None
     expected: list = dataclasses.field(default_factory=list)
     found: list = dataclasses.field(default_factory=list)
+    said: list = dataclasses.field(default_factory=list)
+
+    def is_failure(self):
+        """Whether the store printed nothing that can be compared."""
+        return self.about not in COMPARED
+
+    def like(self):
+        """What differs, without names and numbers. Two schedules that show the same bug usually agree in this."""
+        return self.about, kinds_in(self.expected, self.found), kinds_in(self.found, self.expected)
 
 
 def kind_of(line):
     return line.split(" ", 1)[0]
+
+
+def kinds_in(lines, others):
+    """The kinds of the lines that are not among the others. The kind of a message belongs to the kind of its line."""
+    return frozenset(" ".join(line.split(" ")[0::2][:2]) if line.startswith("sent ") else kind_of(line)
+                     for line in set(lines) - set(others))
 
 
 def read_texts(text):
@@ -111,7 +129,7 @@ def first_difference(expected, kinds, text):
         if not text.strip():
             return Difference(SILENCE, "the store printed nothing")
         return Difference(NO_FORMAT, "the store printed neither a report nor lines of a trace", None, [],
-                          text.rstrip("\n").split("\n")[:5])
+                          text.rstrip("\n").split("\n")[:FIRST_LINES])
     difference = None
     if found.events or found.closing:
         difference = differ_in_trace(expected, kinds, found)
@@ -120,18 +138,22 @@ def first_difference(expected, kinds, text):
     return difference
 
 
-def stopped(is_flood, seconds, text):
-    """The difference of a store that had to be stopped."""
-    event = last_event(read_texts(text))
-    if is_flood:
-        return Difference(FLOOD, "the store printed without end", event)
-    return Difference(HANG, f"the store had not ended after {seconds:g} seconds", event)
-
-
-def crashed(status, complaint, text):
-    """The difference of a store that ended with a status other than 0. A negative status means a signal."""
-    words = f"the store ended with status {status}" if status > 0 else f"the store was ended by signal {-status}"
-    return Difference(CRASH, words, last_event(read_texts(text)), [], complaint.splitlines()[-5:])
+def failed(ended, seconds, is_kept):
+    """The difference of a store that did not end by itself, ended with a status other than 0, or gave an answer that is
+    not one. Otherwise None. A negative status means a signal."""
+    event = last_event(read_texts(ended.text))
+    if ended.is_flood:
+        return Difference(FLOOD, "the store printed without end", event, said=ended.said)
+    if ended.status is None:
+        words = f"the store had not {'answered' if is_kept else 'ended'} after {seconds:g} seconds"
+        return Difference(HANG, words, event, said=ended.said)
+    if ended.status != 0:
+        words = (f"the store ended with status {ended.status}" if ended.status > 0
+                 else f"the store was ended by signal {-ended.status}")
+        return Difference(CRASH, words, event, said=ended.said)
+    if ended.problem:
+        return Difference(NO_ANSWER, ended.problem, None, [], ended.text.splitlines()[:FIRST_LINES], ended.said)
+    return None
 
 
 def last_event(texts):

@@ -2,7 +2,7 @@
 starting the program.
 
 Each way is a function of the arguments and of the standard input. It returns the exit status and the standard output,
-and raises OSError if the call fails.
+and raises OSError if the call fails. Several threads may call it.
 """
 import base64
 import functools
@@ -11,6 +11,7 @@ import json
 import os
 import shutil
 import subprocess
+import threading
 
 TOP = os.path.dirname(os.path.dirname(os.path.realpath(__file__)))
 LAUNCHER = os.path.join(TOP, "mencius")
@@ -27,7 +28,7 @@ def by_starting(program):
 def by_library():
     """Calls the library that MENCIUS_LIBRARY names."""
     mencius = load(os.path.join(TOP, "embedding", "mencius.py"))
-    return lambda words, data: mencius.call(words, data)[:2]
+    return one_at_a_time(lambda words, data: mencius.call(words, data)[:2])
 
 
 def by_module():
@@ -46,7 +47,17 @@ def by_module():
             raise OSError("the process of node that calls the module has ended")
         status, printed, _ = json.loads(answer)
         return status, base64.b64decode(printed)
-    return call
+    return one_at_a_time(call)
+
+
+def one_at_a_time(call):
+    """The same way, for several threads."""
+    lock = threading.Lock()
+
+    def locked(words, data):
+        with lock:
+            return call(words, data)
+    return locked
 
 
 def coded(data):

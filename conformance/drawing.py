@@ -10,26 +10,28 @@ So some schedules have many events of a kind, and others have none.
 import dataclasses
 import random
 
+import data
 import members
+import plots
 import reference
-from operations import NEWEST, OPERATIONS, of_version
 
 # For each name, the text of its option, and the rates that are drawn if the option is not given. Rates are in percent,
 # except `burst`, which is a number of commands.
 RATES = {
     "submissions": ("how many of 100 events start to submit commands", (2, 5, 10)),
     "burst": ("at most N commands in a row at one server", (1, 2, 3)),
-    "suspicion": ("how many of 100 events start rounds of suspicions of a server", (5, 15, 30)),
+    "suspicion": ("how many of 100 events start rounds of suspicions of a server", (10, 30, 50)),
     "retry": ("how many of 100 events suggest a waiting command again", (2, 10)),
     "loss": ("how many of 100 messages on their way to a server are lost", (0, 0, 0, 5, 15)),
     "repeats": ("how many of 100 deliveries are repeated", (0, 5, 15)),
     "delay": ("how many of 100 messages on their way to a server are late", (0, 10, 30)),
     "cuts": ("how many of 100 events cut a server off for a while", (0, 0, 2, 4)),
-    "refusals": ("how many of 100 events are meant to be refused", (2, 5, 10)),
+    "refusals": ("how many of 100 events are meant to be refused", (3, 10, 15)),
 }
-KEYS = ("a", "a", "a", "a", "b", "A")
-TEXTS = ("x", "y", "", "")
 LATE = 60  # a late message is on its way for fewer events than this
+# With a great beta, a suspicion sends thousands of messages. Only the first and the last of them are delivered, and no
+# server suspects another one after so many messages.
+ENDS, MANY_MESSAGES = 4, 3_000
 
 
 class Dice:
@@ -82,7 +84,12 @@ class Drawing:
         self.members = {**drawn, **wish.members}
         self.count = self.members["servers"]
         self.majority = self.count // 2 + 1
+        if self.count == 1:
+            # A single server never decides an instance whose message was lost. Without such trouble, it executes many
+            # commands, so that bugs in data show.
+            self.rates = {**self.rates, "loss": 0, "delay": 0, "repeats": 3, **wish.rates}
         self.wish = wish
+        self.words = data.Words(self.dice, 90 if self.count == 1 else 30)
         self.calm_from = wish.events * self.dice.pick((50, 60, 70, 80)) // 100
         self.cluster = reference.Cluster(self.members)
         self.events, self.messages = [], []
@@ -93,19 +100,24 @@ class Drawing:
         self.room = self.count * self.dice.pick((2, 4, 8))  # with more messages on their way, no commands are submitted
         self.cut = {}  # for a server, the index of the event at which its cut ends
         self.victim = None  # the server that the others suspect
-        self.plot = iter(())  # a generator that adds an event in each step
+        # A generator that adds an event in each step. Some schedules begin with a plot.
+        self.plot = plots.choose(self) if self.dice.chance(80) else iter(())
 
     def attempt(self, event, refusal_rate=0):
         """Adds the event if the cluster accepts it. A refused event is added in `refusal_rate` of 100 cases. Returns
         whether the event was added."""
+        if event.startswith("suspect ") and len(self.messages) > MANY_MESSAGES:
+            return False
         refusal, sent = self.cluster.step(event)
         if refusal and not (self.wish.has_refusals and self.dice.chance(refusal_rate)):
             return False
         self.events.append(event)
-        for message in sent:
-            self.messages.append(message)
+        self.messages += sent
+        for message in sent if len(sent) <= 2 * ENDS else sent[:ENDS] + sent[-ENDS:]:
             if message.kind == "Learn":
                 self.known.add((message.source, message.instance))
+            if self.count == 1 and message.kind == "Learn" and self.dice.chance(70):
+                continue  # the server has learned it already
             receivers = range(self.count) if message.to is None else [message.to]
             for receiver in receivers:
                 late = self.dice.below(LATE) if self.dice.chance(self.rates["delay"]) else 0
@@ -116,7 +128,9 @@ class Drawing:
         """Adds one event or several events."""
         if not self.is_calm() and self.dice.chance(self.rates["repeats"]) and self.repeat():
             return
-        if self.dice.chance(92) and self.go_on():
+        if self.dice.chance(95) and self.go_on():
+            return
+        if self.dice.chance(self.rates["refusals"] / 2) and self.attempt(self.refused_event(), 100):
             return
         if not self.is_calm() and self.disturb() or self.settle():
             return
@@ -145,7 +159,7 @@ class Drawing:
         if self.dice.chance(self.rates["refusals"]):
             return self.attempt(self.refused_event(), 100)
         if self.dice.chance(self.rates["suspicion"]):
-            self.plot = self.fight()
+            self.plot = self.fight() if self.dice.chance(50) else plots.choose(self)
         elif self.dice.chance(self.rates["submissions"]) and len(self.on_way) <= self.room:
             self.plot = self.submit_burst(self.dice.below(self.count))
         elif self.dice.chance(self.rates["retry"]):
@@ -181,14 +195,9 @@ class Drawing:
             yield
 
     def submit(self, server):
-        number = sum(home == server for home, _ in self.identities)
-        self.identities.append((server, f"{server + 1}.{number}"))
-        return self.attempt(f"submit {server} {server + 1}.{number} {self.operation()}")
-
-    def operation(self):
-        word = self.dice.pick(of_version(NEWEST if self.wish.has_cas else 1))
-        texts = OPERATIONS[word].texts
-        return " ".join([word, self.dice.pick(KEYS), *[self.dice.pick(TEXTS) for _ in range(texts)]])
+        identity = self.words.identity(server, sum(home == server for home, _ in self.identities))
+        self.identities.append((server, identity))
+        return self.attempt(f"submit {server} {identity} {self.words.operation(self.wish.has_cas)}")
 
     # ---- suspicions
 
@@ -223,6 +232,9 @@ class Drawing:
             for prepare in prepares[:3] if self.dice.chance(40) else prepares[:1]:
                 yield from self.take_round(prepare, is_whole, left_out)
             left_out = set()
+
+    def front(self, server):
+        return self.cluster.driver.servers[server].front
 
     def suspect(self, server):
         return self.attempt(f"suspect {server} {self.victim}", 4 * self.rates["refusals"])
@@ -282,6 +294,8 @@ class Drawing:
         if message.kind == "Learn":
             self.known.add((pair[1], message.instance))
         self.attempt(f"deliver {pair[0]} {pair[1]}")
+        if message.kind == "Prepare" and message.instance % self.count == pair[1]:
+            self.attempt(f"retry {pair[1]}", 2 * self.rates["refusals"])
 
     def forget(self, rate):
         """Drops messages about instances that their receiver has learned, `rate` of 100, because they rarely show a
@@ -312,19 +326,25 @@ class Drawing:
     def refused_event(self):
         """An event that is usually refused. It often has two causes, and the refusal must name the first."""
         server = self.dice.below(self.count)
-        beyond = self.count + self.dice.below(2)
+        beyond = data.server_beyond(self.dice, self.count)
         somebody = self.dice.pick((server, server, beyond))
         number = self.dice.below(len(self.messages) + 2)
+        unsent = data.message_beyond(self.dice, len(self.messages))
+        private = self.dice.pick([message.number for message in self.messages if message.to is not None] or [number])
         lost = self.dice.pick(self.lost or [(number, server)])
         _, identity = self.dice.pick(self.identities or [(0, "1.0")])
         return self.dice.pick((
-            f"submit {somebody} {identity} {self.operation()}",
+            f"submit {somebody} {identity} {self.words.operation(self.wish.has_cas)}",
             f"deliver {number} {somebody}",
+            f"deliver {private} {somebody}",
+            f"deliver {unsent} {somebody}",
             f"lose {number} {somebody}",
+            f"lose {private} {somebody}",
+            f"lose {unsent} {somebody}",
             f"deliver {lost[0]} {lost[1]}",
             f"lose {lost[0]} {lost[1]}",
             f"suspect {somebody} {server}",
-            f"suspect {server} {self.dice.below(self.count + 1)}",
+            f"suspect {server} {self.dice.pick((server, beyond))}",
             f"suspect {beyond} {beyond}",
             f"retry {somebody}",
             f"execute {somebody}",

@@ -6,8 +6,8 @@ import collections
 Field = collections.namedtuple("Field", "least greatest is_needed meaning drawn")
 
 FIELDS = {
-    "servers": Field(1, 7, True, "with N servers", (1, 2, 2, 3, 3, 3, 3, 3, 3, 3, 3, 4, 4, 4, 5, 5, 6, 7)),
-    "beta": Field(0, 4_095, False, "with this beta", (0, 0, 0, 0, 1, 2, 3, 5)),
+    "servers": Field(1, 7, True, "with N servers", (1, 1, 1, 1, 1, 2, 2, 3, 3, 3, 3, 3, 3, 3, 4, 4, 4, 5, 5, 6, 7)),
+    "beta": Field(0, 4_095, False, "with this beta", (*(0, 0, 0, 0, 1, 2, 3, 5) * 3, 2_047, 4_095)),
 }
 
 

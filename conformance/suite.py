@@ -13,13 +13,14 @@ FOLDER = os.path.join(os.path.dirname(os.path.realpath(__file__)), "schedules")
 
 
 def names(without=()):
-    """All names, except those that begin with one of the words in `without`. Short schedules come first."""
+    """All names, except those that begin with one of the words in `without`. Schedules without a beta come first, and
+    among them those with few events. So the first difference of a new store is short."""
     found = [file[:-len(".json")] for file in os.listdir(FOLDER) if file.endswith(".json")]
-    return sorted((name for name in found if not name.startswith(tuple(without))), key=lambda name: (length(name), name))
+    return sorted((name for name in found if not name.startswith(tuple(without))), key=size)
 
 
-def length(name):
-    return os.path.getsize(os.path.join(FOLDER, name + ".json"))
+def size(name):
+    return scenario(name).get("beta", 0) > 0, len(scenario(name)["events"]), name
 
 
 def text(name):
