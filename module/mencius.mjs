@@ -6,6 +6,7 @@
 // This is the command line of mencius. A run has no threads, so its workers take their turns one after the other.
 import { fstatSync, readFileSync, readSync, realpathSync, writeSync } from 'node:fs';
 import { fileURLToPath } from 'node:url';
+import { inspect, types } from 'node:util';
 
 const MOST = 16_777_217; // bytes that are read of a scenario: one more than the longest scenario has
 const MOST_OF_A_LOG = 2 ** 31; // bytes; a log of this length gets NoMemory, and its first part gets no verdict
@@ -66,17 +67,43 @@ function ask(name, inputs, times = 8) {
   }
 }
 
+// A short text of a value, for a message.
+function shown(value) {
+  const text = inspect(value, { depth: 0, maxArrayLength: 3, maxStringLength: 40, breakLength: Infinity });
+  return text.length > 80 ? `${text.slice(0, 77)}...` : text;
+}
+
+function checkArguments(args) {
+  if (!Array.isArray(args)) {
+    throw new TypeError(`mencius: expected an array of arguments, such as ['replay'], but got ${shown(args)}`);
+  }
+  for (const [index, word] of args.entries()) {
+    if (typeof word !== 'string' && !types.isUint8Array(word)) {
+      throw new TypeError(`mencius: expected a string or a Uint8Array as argument ${index}, but got ${shown(word)}`);
+    }
+  }
+}
+
+function checkInput(name, input) {
+  if (types.isUint8Array(input)) return;
+  const hint = typeof input === 'string' ? '. Pass new TextEncoder().encode(text)' : '';
+  throw new TypeError(`${name}: expected the input as bytes (a Uint8Array), but got ${shown(input)}${hint}`);
+}
+
 // Calls the program with these arguments and this input. Returns its status, both texts, and whether it read the input.
-// An argument is a string or bytes.
+// An argument is a string or bytes. The input is bytes. Throws a TypeError for any other value.
 export function mencius(args, input = new Uint8Array(0)) {
+  checkArguments(args);
+  checkInput('mencius', input);
   const words = Buffer.concat(args.flatMap(word => [Buffer.from(word), Buffer.alloc(1)]));
   return ask('mencius_call', [words, input], isJudge(args) ? 0 : 8);
 }
 
 const isJudge = args => args.length > 0 && Buffer.from(args[0]).equals(Buffer.from('judge'));
 
-// What each server knows after this scenario of `replay`. See docs/EMBEDDING.md, "What servers know".
+// What each server knows after this scenario of `replay`. See docs/EMBEDDING.md, "What servers know". The input is bytes.
 export function state(input) {
+  checkInput('state', input);
   return ask('mencius_state', [input]);
 }
 

@@ -14,7 +14,8 @@ from shared import fail
 
 # The WebDriver codes of keys, by the names of the keys.
 KEYS = {"Enter": "\ue007", "Control": "\ue009", "Escape": "\ue00c", "End": "\ue010", "Home": "\ue011", "Left": "\ue012",
-        "Right": "\ue014", "Delete": "\ue017", "Tab": "\ue004", "PageUp": "\ue00e"}
+        "Right": "\ue014", "Delete": "\ue017", "Tab": "\ue004", "PageUp": "\ue00e",
+        "PageDown": "\ue00f", "Up": "\ue013", "Down": "\ue015"}
 SECONDS = 30
 ELEMENT = "element-6066-11e4-a52e-4f735466cecf"
 

@@ -2,12 +2,15 @@
 // The part below each lane: the messages on their way to the server, its buttons, and its knowledge.
 
 // At first, an inbox shows only this many of its messages, the newest ones.
-const SHOWN = 7;
-// The table of a server shows at most this many instances, the latest ones.
-const INSTANCES = 6;
-// For each server, whether its whole inbox is shown, and whether the messages that it heard are shown. `ask` is the
-// server with an open form for a command, or null.
-const dock = { isWhole: {}, isAgain: {}, ask: null };
+const SHOWN = 5;
+// At first, the list of replies shows only this many of them, the newest ones.
+const REPLIES = 30;
+// `whole` contains the lists that are shown in full, and `again` the servers whose heard messages are shown. `ask` is
+// the server with an open form for a command, or null.
+const dock = { whole: new Set(), again: new Set(), ask: null };
+
+// A button that shows the hidden part of a list.
+const wholeButton = (list, text, label) => el('button', { 'data-do': `whole ${list}`, 'aria-label': label }, text);
 
 const ownerOf = (instance, servers) => `owner${instance % servers}`;
 const written = value => value ?? '–';
@@ -24,8 +27,7 @@ function summary(now) {
   const common = saidOf(schedule).filter(([name]) => COMMON.includes(name)).map(([name, value]) => `${name} ${value}`);
   box.append(el('p', {}, [...counts, ...common].join(', ')));
   if (report.replies.length > 0) {
-    box.append(el('h3', {}, 'replies'), el('ul', { class: 'replies' }, ...report.replies.slice(-30).map(([id, reply]) =>
-      el('li', { class: reply === 'pending' ? 'soft' : null }, el('b', {}, id), ` ${reply}`))));
+    box.append(el('h3', {}, 'replies'), replies(now));
   }
   if (cursor > 0) {
     box.append(el('button', { 'data-do': 'out', title: 'Delete' }, `take out event ${cursor - 1}`));
@@ -38,17 +40,24 @@ function summary(now) {
   return box;
 }
 
+function replies({ report, trace }) {
+  const hidden = dock.whole.has('replies') ? 0 : Math.max(0, report.replies.length - REPLIES);
+  const button = hidden > 0 ? el('li', {}, wholeButton('replies', `show ${hidden} older ..`)) : null;
+  return el('ul', { class: 'replies' }, button, ...report.replies.slice(hidden).map(([id, reply]) =>
+    el('li', { class: reply === 'pending' ? 'soft' : null }, el('b', {}, id), ` ${trace.commands.get(id)} `,
+      el('i', {}, `→ ${reply}`))));
+}
+
 const count = (number, what) => `${number} ${what}${number === 1 ? '' : 's'}`;
 
 function card(now, server) {
-  const { trace, report, schedule } = now, { front, executed, waiting } = trace.closing[server];
+  const { front, executed, waiting } = now.trace.closing[server];
   const facts = [`next own i${front}`, `executed ${executed}`];
   if (waiting.length) facts.push(`waiting ${waiting.join(' ')}`);
   return el('section', { class: `server owner${server}`, 'data-server': server, 'aria-label': `server ${server}` },
     inbox(now, server), actions(now, server),
     el('p', { class: 'facts' }, facts.join(' · ')),
-    el('p', {}, 'history ', el('code', {}, report.histories[server].join(' ') || '–')),
-    table(trace, server, schedule.servers));
+    table(now, server), historyOf(now, server), mapOf(now, server));
 }
 
 // ---- messages on their way
@@ -56,19 +65,21 @@ function card(now, server) {
 function inbox(now, server) {
   const { trace } = now, isDue = ({ to }) => to === server;
   const due = trace.unheard.filter(isDue).map(({ number }) => trace.messages[number]);
-  const hidden = dock.isWhole[server] ? 0 : Math.max(0, due.length - SHOWN);
+  const hidden = dock.whole.has(`inbox${server}`) ? 0 : Math.max(0, due.length - SHOWN);
   const list = el('ul', { class: 'inbox', 'aria-label': `messages on their way to server ${server}` });
   if (due.length === 0) list.append(el('li', { class: 'soft' }, 'no message on its way'));
-  if (hidden > 0) list.append(el('li', {}, el('button', { 'data-do': `whole ${server}` }, `show ${hidden} older ..`)));
+  if (hidden > 0) list.append(el('li', {}, wholeButton(`inbox${server}`, `show ${hidden} older ..`)));
   list.append(...due.slice(hidden).map(message => messageRow(now, message, server)));
-  if (dock.isAgain[server]) {
+  if (dock.again.has(server)) {
     list.append(...trace.heardBy(server).slice(-SHOWN).map(message => messageRow(now, message, server, true)));
   }
   return list;
 }
 
-function messageRow(now, { number, kind, from, instance, label }, server, isAgain = false) {
-  const said = `message ${number}, ${kind} ${label}, from server ${from} to server ${server}`;
+function messageRow(now, { number, kind, from, instance, label, value }, server, isAgain = false) {
+  const command = now.trace.commands.get(value);
+  const content = command ? `${label} (${command})` : label;
+  const said = `message ${number}, ${kind} ${content}, from server ${from} to server ${server}`;
   const deliver = `deliver ${isAgain ? 'again ' : ''}${said}`;
   return el('li', { class: `${ownerOf(instance, now.schedule.servers)}${isAgain ? ' again' : ''}`, 'data-m': number },
     el('button', { class: 'message', 'data-do': `deliver ${number} ${server}`, title: deliver, 'aria-label': deliver },
@@ -110,7 +121,7 @@ function askButton(server) {
 
 function againButton(server) {
   const title = 'show messages that this server has heard, to deliver them again';
-  const isPressed = String(Boolean(dock.isAgain[server]));
+  const isPressed = String(dock.again.has(server));
   return el('button', { 'data-do': `again ${server}`, 'aria-pressed': isPressed, title }, 'again');
 }
 
@@ -123,34 +134,7 @@ function commandFor({ events }, server) {
   return `${client}.${number} set a ${['x', 'y', 'z'][used.size] ?? `v${used.size}`}`;
 }
 
-// ---- the table of what a server knows about the latest instances
-
-const COLUMNS = [
-  ['', 'instance'], ['promised', 'the greatest ballot that it promised or accepted'],
-  ['vote', 'value@ballot that it accepted last'], ['learned', 'the value that it learned'],
-];
-
-function table(trace, server, servers) {
-  const rows = [...trace.slots[server]].sort(([a], [b]) => a - b).slice(-INSTANCES);
-  if (rows.length === 0) return null;
-  const body = rows.flatMap(([instance, slot]) => rowsOf(instance, slot, servers));
-  return el('table', {}, el('caption', { class: 'unseen' }, `instances at server ${server}`),
-    el('thead', {}, el('tr', {}, ...COLUMNS.map(([name, title]) => el('th', { title, scope: 'col' }, name)))),
-    el('tbody', {}, ...body));
-}
-
-function rowsOf(instance, { promised, vote, tried, promises, acceptances, proposal, learned }, servers) {
-  // Two parts, because a narrow card shows the ballot of a vote below its value.
-  const voted = vote ? [vote.value, `@b${vote.ballot}`].map(part => el('span', {}, part)) : [written(null)];
-  const first = el('tr', {}, el('th', { scope: 'row', class: ownerOf(instance, servers) }, `i${instance}`),
-    el('td', {}, written(promised ? `b${promised}` : null)), el('td', { class: 'vote' }, ...voted),
-    el('td', { class: 'learned-value' }, written(learned)));
-  if (learned) return [first];
-  const tells = [tried ? `tries b${tried}` : null, promises && `promises ${promises}`,
-    proposal && `proposed ${proposal}`, acceptances && `accepted by ${acceptances}`];
-  const told = tells.filter(Boolean).join(', ');
-  return told === '' ? [first] : [first, el('tr', { class: 'tries' }, el('td'), el('td', { colspan: 3 }, told))];
-}
+// ---- the whole dock
 
 function fillDock(now) {
   const kept = focusedPlace();

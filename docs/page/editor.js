@@ -1,10 +1,14 @@
 'use strict';
 // The two texts that a user can edit: the schedule, and the log of a store. The program reports mistakes in them.
 
+// In letters. The browser needs seconds to lay out a copy of a longer text.
+const LONGEST_MARKED = 200_000;
+
 // Marks a place in a text area. A copy of the text under the area contains the mark.
 function mark(area, place) {
   const behind = area.previousElementSibling, text = area.value;
   behind.replaceChildren();
+  if (text.length > LONGEST_MARKED) return;
   if (place) {
     const [start, end] = place;
     const marked = el('mark', {}, text.slice(start, end) || ' ');
@@ -22,6 +26,23 @@ function showVerdict(id, text, isBad) {
 }
 
 // ---- the schedule
+
+// A draft is a text of the editor that is not the schedule of the page. `log` is the log that the user wrote, or null.
+const draft = { isOpen: false, log: null };
+
+// Shows a text in the editor that the program may refuse.
+function openDraft(text) {
+  draft.isOpen = true;
+  setTab('editor');
+  $('source').value = text;
+  readEditor(core);
+}
+
+function discardDraft() {
+  draft.isOpen = false;
+  page.edited = null;
+  showTab();
+}
 
 // Checks the text of the editor. Marks a mistake, or returns the schedule if there is none.
 function readEditor(core) {
@@ -83,13 +104,26 @@ function logOf({ events }) {
   return seen.map(line => line + '\n').join('');
 }
 
-// Shows the verdict on the log, the lines that it quotes, and what it means. For a violation, the program says that.
+// Judges the log of the text area. A long log is judged in a worker, so that the page goes on.
 function judgeLog(core) {
-  const area = $('log'), answer = core.call(['judge'], area.value);
+  const text = $('log').value;
+  judging.wanted = null;
+  if (text.length <= JUDGED_AT_ONCE) {
+    showJudgement(text, core.call(['judge'], text));
+    return;
+  }
+  showVerdict('judgement', 'judging ..');
+  for (const id of ['quoted', 'in-words']) $(id).textContent = '';
+  mark($('log'), null);
+  judgeInWorker(text, answer => showJudgement(text, answer));
+}
+
+// Shows the verdict on a log, the lines that it quotes, and what it means. For a violation, the program says that.
+function showJudgement(text, answer) {
   const [verdict, ...quoted] = answer.printed.trim().split('\n'), words = verdict.split(' ');
   const isBroken = words[0] === 'violation', sentence = isBroken ? quoted.pop() : '';
   const said = verdict || wordsOf(answer.said);
-  mark(area, verdict && !isBroken ? null : placeOfMistake(area.value, isBroken ? `line ${words[1]}` : said));
+  mark($('log'), verdict && !isBroken ? null : placeOfMistake(text, isBroken ? `line ${words[1]}` : said));
   showVerdict('judgement', said, answer.status !== 0);
   $('quoted').textContent = quoted.join('\n');
   $('in-words').textContent = isBroken ? sentence : verdict ? keptInWords(words) : badLineInWords(said);

@@ -16,19 +16,9 @@ const page = {
   now: null, whole: null, edited: null, dice: diceOf(1),
 };
 
-// A random number generator for the random steps. Only the page uses it.
-function diceOf(seed) {
-  let state = seed;
-  return sides => {
-    state = (state + 0x6d2b79f5) | 0;
-    let word = Math.imul(state ^ (state >>> 15), 1 | state);
-    word = (word + Math.imul(word ^ (word >>> 7), 61 | word)) ^ word;
-    return ((word ^ (word >>> 14)) >>> 0) % sides;
-  };
-}
-
-function say(text) {
-  $('toast').textContent = text;
+// Says something for a while, with a button to undo the last change if `isUndoable`.
+function say(text, isUndoable = false) {
+  $('toast').replaceChildren(text, ...isUndoable ? [' ', el('button', { 'data-undo': true }, 'undo')] : []);
   $('toast').classList.add('seen');
   clearTimeout(say.timer);
   say.timer = setTimeout(() => $('toast').classList.remove('seen'), 5000);
@@ -53,10 +43,16 @@ function traceOf(schedule) {
     say(wordsOf(answer.said));
     return null;
   }
-  const made = { text: answer.printed, trace: new Trace(answer.printed) };
+  const text = answer.printed, made = { text, trace: new Trace(text, formerTrace(text)) };
   traces.set(scenario, made);
   if (traces.size > TRACES_KEPT) traces.delete(traces.keys().next().value);
   return made;
+}
+
+// The longest trace with which this text begins.
+function formerTrace(text) {
+  const parts = [...traces.values()].map(({ trace }) => trace).filter(({ lines }) => text.startsWith(lines));
+  return parts.sort((one, other) => other.lines.length - one.lines.length)[0];
 }
 
 function become(schedule, cursor, isKept = true) {
@@ -66,6 +62,7 @@ function become(schedule, cursor, isKept = true) {
     page.past.push({ schedule: page.schedule, cursor: page.cursor });
     if (page.past.length > UNDONE) page.past.shift();
     page.future = [];
+    address.isFrozen = false;
   }
   Object.assign(page, { schedule, whole });
   dock.ask = null;
@@ -88,26 +85,37 @@ function undo(from, to) {
 
 // Inserts an event at the cursor. If the next event of the schedule is the same one, it only moves the cursor.
 function add(event) {
-  const { schedule, cursor, now } = page;
+  const { schedule, cursor } = page;
   if (schedule.events[cursor] === event) { go(cursor + 1); return; }
-  const tried = traceOf(withEvent(prefixOf(schedule, cursor), event));
-  if (!tried) return;
-  const sent = tried.trace.messages.length - now.trace.messages.length;
-  const made = withInserted(schedule, cursor, event, now.trace.messages.length, sent);
-  if (!become(made.schedule, cursor + 1)) return;
-  const { refusal } = tried.trace.events.at(-1);
+  if (!insert([event])) return;
+  const { refusal } = page.now.trace.events.at(-1);
   if (refusal) say(`Refused, because ${REFUSALS[refusal]}.`);
-  else if (made.moved) say(`Inserted at the cursor. ${count(made.moved, 'later event')} got new message numbers.`);
-  else if (cursor < schedule.events.length) say('Inserted at the cursor. The later events stay.');
+}
+
+// Inserts events at the cursor, as one change.
+function insert(events) {
+  const { schedule, cursor } = page, before = schedule.events.slice(0, cursor);
+  return change({ ...schedule, events: [...before, ...events] }, cursor, 'Inserted at the cursor.');
 }
 
 function takeOut() {
-  if (page.cursor === 0) return;
-  const place = page.cursor - 1, { trace } = page.whole;
-  const { schedule, gone } = withRemoved(page.schedule, place, trace.events[place].firstMessage, trace.countOf(place));
-  become(schedule, place);
-  const some = gone.slice(0, 4).join(', ') + (gone.length > 4 ? ' ..' : '');
-  if (gone.length) say(`These events were also taken out, because their message is gone: ${some}`);
+  const { schedule, cursor } = page;
+  if (cursor > 0) change(prefixOf(schedule, cursor - 1), cursor, `Event ${cursor - 1} is taken out.`);
+}
+
+// Replaces the events before the place `from` by those of `prefix`. The later events keep their meaning.
+function change(prefix, from, what) {
+  const made = rebound(page.schedule, from, prefix, traceOf);
+  if (!made || !become(made.schedule, prefix.events.length)) return false;
+  const { gone, altered, refused } = made, some = gone.slice(0, 4).join(', ') + (gone.length > 4 ? ' ..' : '');
+  const parts = [what];
+  if (gone.length) parts.push(`Nobody sends the messages of these events now, so they are gone: ${some}.`);
+  if (altered) parts.push(`The messages of ${count(altered, 'later event')} say something else now.`);
+  if (refused) parts.push(`${count(refused, 'later event')} ${refused === 1 ? 'is' : 'are'} refused now.`);
+  const isWhole = prefix.events.length === made.schedule.events.length;
+  if (parts.length > 1) say(parts.join(' '), true);
+  else if (!isWhole) say(`${what} The later events deliver the same messages as before.`);
+  return true;
 }
 
 // Opens a schedule if the program accepts it. Otherwise shows the reason.
@@ -118,21 +126,39 @@ function open(schedule, cursor, isKept) {
   return false;
 }
 
-// ---- a random event, one of those that the buttons offer
+// ---- random events
 
-function randomEvent() {
-  const { now, schedule, dice } = page, asked = refusableEvents(schedule.servers).filter(event => !refusalOf(event));
-  const [runs, odd] = [true, false].map(is => asked.filter(event => event.startsWith('execute') === is));
-  const roll = dice(100), { unheard } = now.trace, server = dice(schedule.servers);
-  if (runs.length && roll < 35) return runs[dice(runs.length)];
-  if (odd.length && roll < 40) return odd[dice(odd.length)];
-  if (!unheard.length || roll >= 90) return `submit ${server} ${commandFor(schedule, server)}`;
-  const { number, to } = unheard[Math.max(dice(unheard.length), dice(unheard.length))];
-  return `${roll >= 84 ? 'lose' : 'deliver'} ${number} ${to}`;
+// One random step takes one event. The trace tells the events after which it was made, so more events are drawn from
+// the same trace if it is long. In letters.
+const READ_AT_ONCE = 500_000;
+
+// The drawing goes on where it stopped, unless the schedule changed in the meantime.
+function drawingFor(prefix) {
+  const text = asScenario(prefix);
+  if (page.drawing?.after !== text) page.drawing = { drawing: new Drawing(page.dice, isAccepted) };
+  return page.drawing.drawing;
 }
 
+function isAccepted(schedule, event) {
+  const report = readReport(core.call(['replay'], asScenario(withEvent(schedule, event))).printed);
+  return report.refused.at(-1)?.[0] !== schedule.events.length;
+}
+
+// Draws random events and inserts them together.
 function addAtRandom(number) {
-  for (let left = number; left > 0; left -= 1) add(randomEvent());
+  const first = page.cursor;
+  let prefix = prefixOf(page.schedule, first), made = page.now;
+  const drawing = drawingFor(prefix);
+  while (made && prefix.events.length < first + number) {
+    const size = Math.ceil(number * made.text.length / READ_AT_ONCE), end = first + number;
+    drawing.look(prefix, made.trace);
+    while (drawing.time < Math.min(end, prefix.events.length + size)) drawing.draw();
+    prefix = drawing.schedule;
+    made = traceOf(prefix);
+  }
+  if (!made) return;
+  insert(prefix.events.slice(first));
+  page.drawing.after = asScenario(prefix);
 }
 
 // ---- whether the proved code would refuse an event
@@ -210,8 +236,9 @@ function inSentence({ text, refusal, lines }, place) {
 
 function showTab() {
   const { tab, schedule, now } = page;
-  // A step does not overwrite text that the user is editing.
-  if (tab === 'editor' && page.edited !== schedule && document.activeElement !== $('source')) {
+  // A step does not overwrite text that the user is editing, or a draft.
+  $('draft').hidden = !draft.isOpen;
+  if (tab === 'editor' && page.edited !== schedule && !draft.isOpen && document.activeElement !== $('source')) {
     page.edited = schedule;
     $('source').value = asFile(schedule);
     readEditor(core);
@@ -235,12 +262,6 @@ function setTab(tab) {
   if (tab === 'judge') judgeLog(core);
 }
 
-// Writes the schedule to the address, unless it is too long for a link.
-function keepAddress() {
-  const link = asLink(page.schedule, page.cursor, lesson.step);
-  history.replaceState(null, '', link ?? '#');
-}
-
 // ---- hints
 
 function showHint(text) {
@@ -260,13 +281,16 @@ function startStep(number) {
   if (step) become(step.schedule, 0);
 }
 
-function openAddress(isFirst) {
-  const link = readLink(location.hash);
+async function openAddress(isFirst) {
+  const { hash } = location, link = await readLink(hash);
   showStep(link ? link.step : lesson.step);
-  if (link && open(link.schedule, link.cursor, !isFirst) || !isFirst) return;
-  showStep(0);
-  become(DATA.examples[DATA.first.example], DATA.first.cursor, false);
-  showHint(DATA.first.hint);
+  if (link && open(link.schedule, link.cursor, !isFirst)) return;
+  if (isFirst) {
+    showStep(0);
+    become(DATA.examples[DATA.first.example], DATA.first.cursor, false);
+    if (hash.length <= 1) showHint(DATA.first.hint);
+  }
+  if (hash.length > 1) showBadLink(link);
 }
 
 async function main() {
@@ -283,6 +307,6 @@ async function main() {
   wire();
   fillLessons();
   setTab('lesson');
-  openAddress(true);
+  await openAddress(true);
   document.body.dataset.started = (performance.now() - begin).toFixed(1);
 }

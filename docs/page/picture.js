@@ -8,7 +8,7 @@ const DRAWN = 100;
 const AROUND = 20;
 // Positions in a picture of `mencius draw`: its left and upper edge, the first lane, and the distance of the lanes.
 const LEFT = 296, TOP = 84, FIRST_LANE = 452, APART = 204, HALF_ROW = 12;
-const SMALLEST = 0.9;
+const SMALLEST = 0.85;
 const EMPTY = 'Nothing has happened. Click “submit ..” below a server to submit a command, or press R for'
   + ' a random event.';
 

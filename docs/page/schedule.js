@@ -19,13 +19,20 @@ function saidOf(schedule) {
 // The least version that contains all operations of the events. The journal of a run has this version too.
 function versionOf(events) {
   const { versions } = DATA.operations;
-  const needed = event => versions[/^submit \d+ [\d.]+ (\w+) /.exec(event)?.[1]] ?? 1;
-  return events.reduce((least, event) => Math.max(least, needed(event)), 1);
+  const needed = event => event.startsWith('submit') && versions[/^submit \d+ [\d.]+ (\w+) /.exec(event)?.[1]];
+  return events.reduce((least, event) => Math.max(least, needed(event) || 1), 1);
 }
+
+// A step needs the text of a schedule several times, and the schedule may be long.
+const scenarios = new WeakMap();
 
 function asScenario(schedule) {
   const { events } = schedule;
-  return JSON.stringify({ version: versionOf(events), ...Object.fromEntries(saidOf(schedule)), events });
+  if (!scenarios.has(schedule)) {
+    const scenario = { version: versionOf(events), ...Object.fromEntries(saidOf(schedule)), events };
+    scenarios.set(schedule, JSON.stringify(scenario));
+  }
+  return scenarios.get(schedule);
 }
 
 function asFile(schedule) {
@@ -44,73 +51,6 @@ function readScenario(text) {
 
 const prefixOf = (schedule, length) => ({ ...schedule, events: schedule.events.slice(0, length) });
 const withEvent = (schedule, event) => ({ ...schedule, events: [...schedule.events, event] });
-
-// ---- an event in the middle changes the numbers of later messages, because numbers follow the order of sending
-
-const messageOf = event => /^(deliver|lose) (\d+) (\d+)$/.exec(event);
-
-// The events, after `by` is added to all message numbers from `first` on. `moved` is the number of changed events.
-function renumbered(events, first, by) {
-  let moved = 0;
-  const texts = events.map(event => {
-    const named = messageOf(event);
-    if (!named || +named[2] < first || by === 0) return event;
-    moved += 1;
-    return `${named[1]} ${+named[2] + by} ${named[3]}`;
-  });
-  return { texts, moved };
-}
-
-// The schedule with an event inserted at a place. `first` messages were sent before the event, and it sends `count`.
-function withInserted(schedule, place, event, first, count) {
-  const { texts, moved } = renumbered(schedule.events.slice(place), first, count);
-  return { schedule: { ...schedule, events: [...schedule.events.slice(0, place), event, ...texts] }, moved };
-}
-
-// The schedule without the event at a place. The event sent `count` messages from number `first` on. The deliveries and
-// losses of these messages are also removed.
-function withRemoved(schedule, place, first, count) {
-  const isGone = event => {
-    const named = messageOf(event);
-    return named !== null && +named[2] >= first && +named[2] < first + count;
-  };
-  const behind = schedule.events.slice(place + 1);
-  const { texts, moved } = renumbered(behind.filter(event => !isGone(event)), first + count, -count);
-  const events = [...schedule.events.slice(0, place), ...texts];
-  return { schedule: { ...schedule, events }, moved, gone: behind.filter(isGone) };
-}
-
-// ---- the schedule in a link, which is readable because no word of an event needs an escape
-
-// In characters. Some browsers do not accept longer links.
-const LONGEST_LINK = 60_000;
-
-function asLink(schedule, cursor, step) {
-  const texts = schedule.events.map(event => encodeURIComponent(event).replaceAll('%20', '+')).join(';');
-  const members = saidOf(schedule).map(([name, value]) => `${DATA.members[name].letter}=${value}&`).join('');
-  const link = `#${members}at=${cursor}${step ? `&step=${step}` : ''}&e=${texts}`;
-  return link.length > LONGEST_LINK ? null : link;
-}
-
-// The content of a link, or null if it is not a link to a schedule. The program must still check the schedule.
-function readLink(hash) {
-  const fields = /^#((?:[a-z]=\d+&)+)at=(\d+)(?:&step=(\d+))?&e=(.*)$/.exec(hash);
-  if (!fields) return null;
-  const said = new Map(fields[1].split('&').slice(0, -1).map(part => [part[0], Number(part.slice(2))]));
-  const named = Object.entries(DATA.members).map(([name, { letter }]) => [name, said.get(letter)]);
-  const members = membersOf(Object.fromEntries(named));
-  const [cursor, step] = fields.slice(2, 4).map(digits => Number(digits || 0));
-  const events = fields[4] === '' ? [] : fields[4].split(';').map(readPart);
-  return Object.values(members).includes(undefined) ? null : { schedule: { ...members, events }, cursor, step };
-}
-
-function readPart(text) {
-  try {
-    return decodeURIComponent(text.replaceAll('+', ' '));
-  } catch {
-    return text;
-  }
-}
 
 // ---- the place of a mistake in a text, from the words of the program
 

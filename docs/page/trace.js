@@ -2,19 +2,41 @@
 // Reads a trace for the tables and buttons. This file contains no rules of the protocol. Each entry of a table comes
 // from a line of the trace, or is the greatest ballot of several lines. See "The trace" in docs/MODEL.md.
 
-const NO_SLOT = { promised: 0, vote: null, tried: 0, promises: null, acceptances: null, proposal: null, learned: null };
+const NO_SLOT = { promised: 0, vote: null, tried: 0, promises: null, acceptances: null, proposal: null, learned: null,
+  at: -1, fields: [] };
+
+// The length of the lines that tell of events. The lines after them are about the state after the last event.
+const lengthOfEvents = text => text.indexOf('\nserver 0 front ') + 1;
 
 class Trace {
-  constructor(text) {
+  // `former` is the trace of fewer events, or undefined. If the text goes on with its lines, only the new ones are read.
+  constructor(text, former) {
+    const start = former && text.startsWith(former.lines) ? former.lines.length : 0;
+    if (start > 0) this.copy(former);
+    else this.begin();
+    this.lines = text.slice(0, lengthOfEvents(text));
+    for (const line of text.slice(start).split('\n')) this.read(line, line.split(' '));
+  }
+
+  copy({ servers, events, messages, lost, slots, proposals, commands }) {
+    this.begin();
+    Object.assign(this, { servers, events: [...events], messages: [...messages], lost: new Set(lost) });
+    Object.assign(this, { slots: slots.map(map => new Map(map)), proposals: new Map(proposals) });
+    this.commands = new Map(commands);
+  }
+
+  begin() {
     this.servers = 0;
     this.events = [];   // { text, firstMessage, refusal, lines }
-    this.messages = []; // { number, kind, from, to, instance, label }; `to` is a server, or null for all servers
-    this.closing = [];  // { front, executed, waiting } for each server
+    this.messages = []; // { number, kind, from, to, instance, label, value, says }; `to` is a server, or null for all servers
+    this.closing = [];  // { front, executed, next, waiting } for each server
     this.unheard = [];  // { number, to }
     this.lost = new Set(); // texts `NUMBER SERVER`
-    this.slots = [];    // for each server, a map from an instance to the server's knowledge of it
+    // For each server, a map from an instance to the server's knowledge of it. `fields` were changed last, by event `at`.
+    this.slots = [];
+    this.commands = new Map(); // from the identity of a command to its operation
+    this.newest = null; // the identity that the last event added to `commands`, or null
     this.proposals = new Map();
-    for (const line of text.split('\n')) this.read(line, line.split(' '));
   }
 
   read(line, words) {
@@ -22,12 +44,6 @@ class Trace {
     if (reader) reader(this, words);
     const isOfEvent = this.closing.length === 0 && words[0] !== 'event' && words[0] !== 'servers';
     if (isOfEvent) this.events.at(-1)?.lines.push(line);
-  }
-
-  // The number of messages that the event at a place sent.
-  countOf(place) {
-    const behind = this.events[place + 1];
-    return (behind ? behind.firstMessage : this.messages.length) - this.events[place].firstMessage;
   }
 
   // The messages that a server has heard. It may hear them again.
@@ -39,8 +55,11 @@ class Trace {
   }
 
   change(server, instance, changes) {
-    const slots = this.slots[server];
-    slots.set(instance, { ...(slots.get(instance) || NO_SLOT), ...changes });
+    const former = this.slot(server, instance), at = this.events.length - 1;
+    const fields = Object.keys(changes).filter(field => changes[field] !== former[field]);
+    const others = former.at === at ? former.fields : [];
+    const mark = fields.length > 0 ? { at, fields: [...others, ...fields] } : {};
+    this.slots[server].set(instance, { ...former, ...changes, ...mark });
   }
 
   slot(server, instance) {
@@ -56,17 +75,21 @@ const READERS = {
   event(trace, words) {
     const text = words.slice(2).join(' ');
     trace.events.push({ text, firstMessage: trace.messages.length, refusal: null, lines: [] });
+    trace.newest = words[2] === 'submit' && !trace.commands.has(words[4]) ? words[4] : null;
+    if (trace.newest) trace.commands.set(trace.newest, words.slice(5).join(' '));
     if (words[2] === 'lose') trace.lost.add(`${words[3]} ${words[4]}`);
   },
   refused(trace, words) {
     const event = trace.events.at(-1);
     event.refusal = words[1];
+    if (trace.newest) trace.commands.delete(trace.newest);
     if (words[1] !== 'LostMessage') trace.lost.delete(event.text.slice('lose '.length));
   },
   sent(trace, words) {
     const [kind, from, instance] = [words[2], +words[4], +words[8]];
     const to = words[6] === 'all' ? null : +words[6];
-    trace.messages.push({ number: +words[1], kind, from, to, instance, label: labelOf(words) });
+    const says = words.slice(2).join(' ');
+    trace.messages.push({ number: +words[1], kind, from, to, instance, label: labelOf(words), value: valueOf(words), says });
     SENDERS[kind]?.(trace, from, instance, words);
   },
   promises(trace, words) {
@@ -79,7 +102,8 @@ const READERS = {
     trace.change(+words[1], +words[3], { learned: words[5] });
   },
   server(trace, words) {
-    trace.closing.push({ front: +words[3], executed: +words[5], waiting: words.slice(9).filter(word => word !== '-') });
+    const [front, executed, next] = [3, 5, 7].map(place => +words[place]);
+    trace.closing.push({ front, executed, next, waiting: words.slice(9).filter(word => word !== '-') });
   },
   unheard(trace, words) {
     trace.unheard.push({ number: +words[1], to: +words[4] });
@@ -107,6 +131,13 @@ const SENDERS = {
     trace.change(from, instance, { promised: Math.max(promised, ballot), vote: mine });
   },
 };
+
+// The value in a message, or undefined.
+function valueOf(words) {
+  const place = words.indexOf('value');
+  if (words[2] === 'Promise') return words[13];
+  return place < 0 ? undefined : words[place + 1];
+}
 
 // The content of a message, without its kind, as the picture shows it.
 function labelOf(words) {

@@ -4,15 +4,24 @@
 const OWN = {
   out: takeOut,
   cut: () => become(prefixOf(page.schedule, page.cursor), page.cursor),
-  ask: server => { dock.ask = server < 0 ? null : server; fillDock(page.now); greyButtons(); },
-  again: server => { dock.isAgain[server] = !dock.isAgain[server]; fillDock(page.now); greyButtons(); },
-  whole: server => { dock.isWhole[server] = true; fillDock(page.now); greyButtons(); },
+  ask: server => { dock.ask = +server < 0 ? null : +server; refillDock(); },
+  again: server => { toggle(dock.again, +server); refillDock(); },
+  whole: list => { toggle(dock.whole, list); refillDock(); },
 };
+
+function refillDock() {
+  fillDock(page.now);
+  greyButtons();
+}
+
+function toggle(set, item) {
+  if (!set.delete(item)) set.add(item);
+}
 
 function press(button) {
   const [name, argument] = button.dataset.do.split(' ');
   if (button.getAttribute('aria-disabled') === 'true') say(`The proved code would refuse this: ${button.title}`);
-  else if (OWN[name]) OWN[name](Number(argument));
+  else if (OWN[name]) OWN[name](argument);
   else add(button.dataset.do);
 }
 
@@ -41,18 +50,9 @@ function savePicture() {
   else say(wordsOf(answer.said));
 }
 
-async function copyLink() {
-  if (!asLink(page.schedule, page.cursor, lesson.step)) {
-    say('The schedule is too long for a link. Click JSON to save it as a file.');
-    return;
-  }
-  keepAddress();
-  try {
-    await navigator.clipboard.writeText(location.href);
-    say('The link is in the clipboard. It contains the whole schedule.');
-  } catch {
-    say('The link is in the address bar. It contains the whole schedule.');
-  }
+function saveSchedule() {
+  save('schedule.json', 'application/json', asFile(page.schedule));
+  address.saved = page.schedule;
 }
 
 function changeTheme() {
@@ -72,12 +72,16 @@ function wireCommon(name) {
   const input = el('input', { id: name, type: 'number', min: 0 });
   $('common').append(el('label', { title: DATA.members[name].meaning }, `${name} `, input));
   input.onchange = () => {
-    if (!open({ ...page.schedule, [name]: Number(input.value) }, page.cursor)) showBar();
-    else if (page.schedule.events.length > 0) {
-      say('The events stay. Some may now send other messages, and later messages may have other numbers.');
-    }
+    const empty = emptyOf({ ...page.schedule, [name]: Number(input.value) });
+    const answer = core.call(['check'], asScenario(empty)), { cursor } = page;
+    if (answer.status !== 0) say(`This is not a schedule: ${wordsOf(answer.said)}`);
+    else if (change(empty, 0, `Now ${name} is ${input.value}.`)) go(cursor);
+    showBar();
   };
 }
+
+// After a choice, the keys belong to the schedule. In a list, they would choose something else.
+const focusPicture = () => $('picture').focus({ preventScroll: true });
 
 function wireBar() {
   for (const name of Object.keys(DATA.examples)) $('example').add(new Option(name.replaceAll('_', ' '), name));
@@ -87,23 +91,27 @@ function wireBar() {
     const example = DATA.examples[$('example').value];
     showStep(0);
     become(example ?? emptyOf({ servers: page.schedule.servers }), example ? example.events.length : 0);
+    focusPicture();
   };
   $('servers').onchange = () => {
     const wasEmpty = page.schedule.events.length === 0;
     become(emptyOf({ ...page.schedule, servers: +$('servers').value }), 0);
     if (!wasEmpty) say('This is a new schedule. Undo restores the former one.');
+    focusPicture();
   };
   COMMON.forEach(wireCommon);
   const actions = {
     undo: () => undo(page.past, page.future), redo: () => undo(page.future, page.past),
     random: () => addAtRandom(1), random20: () => addAtRandom(20),
     first: () => go(0), back: () => go(page.cursor - 1), next: () => go(page.cursor + 1), last: () => go(Infinity),
-    link: copyLink, json: () => save('schedule.json', 'application/json', asFile(page.schedule)), svg: savePicture,
+    link: shareLink, json: saveSchedule, svg: savePicture, discard: discardDraft,
+    copy: () => copy($('shared').value), 'close-share': () => $('share').close(),
     theme: changeTheme, side: showSide, help: () => $('keys').showModal(), 'close-keys': () => $('keys').close(),
   };
   for (const [id, action] of Object.entries(actions)) $(id).onclick = action;
   $('slider').oninput = () => go(+$('slider').value);
   $('hint').querySelector('button').onclick = hideHint;
+  $('toast').onclick = ({ target }) => { if (target.closest('[data-undo]')) undo(page.past, page.future); };
 }
 
 function wireStage() {
@@ -136,6 +144,16 @@ function light(number) {
   if (number !== null && number !== undefined) document.getElementById(`m${number}`)?.classList.add('lit');
 }
 
+// Makes the text of the editor the schedule of the page, if the program accepts it. Otherwise it stays a draft.
+function takeSource() {
+  const schedule = readEditor(core);
+  $('draft').hidden = schedule !== null;
+  if (!schedule) return;
+  draft.isOpen = false;
+  page.edited = schedule;
+  become(schedule, schedule.events.length);
+}
+
 function wireTabs() {
   for (const tab of TABS) $(`tab-${tab}`).onclick = () => setTab(tab);
   document.querySelector('[role=tablist]').onkeydown = event => {
@@ -149,12 +167,10 @@ function wireTabs() {
     const button = target.closest('[data-step]');
     if (button) startStep(+button.dataset.step);
   };
-  $('source').oninput = () => later('check', 200, () => {
-    const schedule = readEditor(core);
-    if (!schedule) return;
-    page.edited = schedule;
-    become(schedule, schedule.events.length);
-  });
+  $('source').oninput = () => {
+    draft.isOpen = true;
+    later('check', 200, takeSource);
+  };
   $('worker').onsubmit = event => {
     event.preventDefault();
     const schedule = drawByWorker(core, page.schedule);
@@ -164,10 +180,16 @@ function wireTabs() {
   $('logs').add(new Option('the log of the schedule', ''));
   $('log').value = DATA.logs[$('logs').value = 'same_order'];
   $('logs').onchange = () => {
-    $('log').value = DATA.logs[$('logs').value] ?? logOf(page.now.trace);
+    const { value } = $('logs');
+    $('log').value = value === 'own' ? draft.log : DATA.logs[value] ?? logOf(page.now.trace);
     judgeLog(core);
   };
-  $('log').oninput = () => later('judge', 150, () => judgeLog(core));
+  $('log').oninput = () => {
+    if (draft.log === null) $('logs').add(new Option('your own log', 'own'));
+    $('logs').value = 'own';
+    draft.log = $('log').value;
+    later('judge', 150, () => judgeLog(core));
+  };
   for (const area of [$('source'), $('log')]) {
     area.onscroll = () => { area.previousElementSibling.scrollTop = area.scrollTop; };
   }
@@ -177,11 +199,15 @@ function wireTabs() {
 
 const PLAIN = {
   ArrowLeft: () => go(page.cursor - 1), ArrowRight: () => go(page.cursor + 1),
+  ArrowUp: () => go(page.cursor - 1), ArrowDown: () => go(page.cursor + 1),
   PageUp: () => go(page.cursor - 10), PageDown: () => go(page.cursor + 10), Home: () => go(0), End: () => go(Infinity),
   Delete: takeOut, Backspace: takeOut, r: () => addAtRandom(1), R: () => addAtRandom(20), p: showSide,
   '?': () => $('keys').showModal(),
   d: () => pressFocused('.message'), l: () => pressFocused('.lose'),
 };
+
+// In a text that has the focus, these keys scroll.
+const SCROLLING = ['ArrowUp', 'ArrowDown', 'PageUp', 'PageDown', 'Home', 'End'];
 
 // Delivers or loses the message that has the focus.
 function pressFocused(kind) {
@@ -189,10 +215,10 @@ function pressFocused(kind) {
 }
 
 function keyed(event) {
-  if ($('keys').open || event.altKey) return;
+  if ($('keys').open || $('share').open || event.altKey) return;
   const { target, key } = event, isField = target.tagName === 'INPUT' && target.type !== 'range';
   const isWriting = isField || ['TEXTAREA', 'SELECT'].includes(target.tagName);
-  if (key === 'Escape' && dock.ask !== null) { OWN.ask(-1); return; }
+  if (key === 'Escape' && dock.ask !== null) { OWN.ask('-1'); return; }
   if (isWriting) return;
   if (event.ctrlKey || event.metaKey) {
     const back = () => undo(page.past, page.future), again = () => undo(page.future, page.past);
@@ -200,6 +226,7 @@ function keyed(event) {
     if (action) { event.preventDefault(); action(); }
     return;
   }
+  if (SCROLLING.includes(key) && target.closest('pre')) return;
   if (/^[0-6]$/.test(key)) $('dock').querySelector(`section[data-server="${key}"] [data-do]`)?.focus();
   const action = PLAIN[key];
   if (action && !(target.id === 'slider' && key.startsWith('Arrow'))) { event.preventDefault(); action(); }
@@ -209,12 +236,14 @@ function wire() {
   wireBar();
   wireStage();
   wireTabs();
+  wireFiles();
   fillKey(core);
   measure();
   addEventListener('keydown', keyed);
   addEventListener('hashchange', () => {
-    if (location.hash !== asLink(page.schedule, page.cursor, lesson.step)) openAddress(false);
+    if (location.hash !== address.written) openAddress(false);
   });
+  addEventListener('beforeunload', event => { if (isUnsaved()) event.preventDefault(); });
 }
 
 main();

@@ -1,0 +1,62 @@
+"""Tries the random steps of the page. 120 of them must decide, revoke and execute instances, as the schedules of
+conformance/drawing.py do. Twenty steps must take one rendering and one undo, also after 10,000 events."""
+from page_user import URL, cursor, same
+from shared import fail, say
+
+MOST_MILLISECONDS = 300
+EVENTS = 10_000
+
+
+def look(browser):
+    look_at_the_events(browser)
+    count_the_renderings(browser)
+
+
+def look_at_the_events(browser):
+    """The dice of a new page always start with the same seed, so the events are always the same."""
+    browser.open(URL + "#n=3&at=0&e=")
+    for _ in range(5):
+        browser.click("#random20")
+    browser.run("for (let left = 20; left > 0; left -= 1) document.getElementById('random').click()")
+    same(browser, "the cursor after 120 random events", "120 of 120", cursor(browser))
+    browser.click("#tab-texts")
+    lines = [line.split(" ") for line in browser.text("#trace").splitlines()]
+    browser.click("#tab-lesson")
+    counts = {
+        "submitted commands": sum(line[2:3] == ["submit"] for line in lines),
+        "commands that were executed": sum(line[0] == "executed" and line[-1] != "no-op" for line in lines),
+        "instances that were revoked": sum(line[0] == "learned" and line[-1] == "no-op" for line in lines),
+        "executions": sum(line[0] == "executed" for line in lines),
+    }
+    for what, count in counts.items():
+        if count < 4:
+            fail(f"{browser.name}: 120 random events have too few {what}: {count}")
+    most = sum(line[2:3] == ["suspect"] for line in lines)
+    if most > 20:
+        fail(f"{browser.name}: {most} of 120 random events are suspicions")
+    same(browser, "the refused random events", 0, sum(line[0] == "refused" for line in lines))
+
+
+def count_the_renderings(browser):
+    """`show` draws the page anew. The check counts its calls while the buttons are clicked."""
+    browser.run("window.shown = 0; const real = show; window.show = () => { window.shown += 1; real(); }")
+    browser.click("#random20")
+    same(browser, "the renderings of twenty random steps", 1, browser.run("return window.shown"))
+    same(browser, "the cursor then", "140 of 140", cursor(browser))
+    browser.click("#undo")
+    same(browser, "the cursor after one undo", "120 of 120", cursor(browser))
+
+
+def time_twenty_steps(browser):
+    """The processor time of twenty random steps after 10,000 events, most of them repeated deliveries."""
+    browser.open(URL + "#n=3&at=0&e=")
+    browser.run("for (let left = 20; left > 0; left -= 1) document.getElementById('random20').click()")
+    browser.run(f"""const events = [...page.schedule.events], again = events.filter(event => event.startsWith('deliver '));
+      while (events.length < {EVENTS}) events.push(again[events.length % again.length]);
+      become({{ ...page.schedule, events }}, events.length)""")
+    same(browser, "the cursor of the long schedule", f"{EVENTS} of {EVENTS}", cursor(browser))
+    times = sorted(browser.own_time("document.getElementById('random20').click()") for _ in range(5))
+    if times[0] >= MOST_MILLISECONDS:
+        fail(f"twenty random steps at {EVENTS} events take {times[0]:.0f} ms of processor time, not less than"
+             f" {MOST_MILLISECONDS}")
+    say(f"twenty random steps at {EVENTS} events take {times[0]:.0f} to {times[-1]:.0f} ms of processor time")

@@ -1,0 +1,83 @@
+"""Drops files on the page, and tries that a long log does not block it."""
+import json
+import os
+
+from page_user import URL, cursor, same, schedule
+from shared import TOP, fail, say
+
+# In milliseconds of processor time. Without the worker, or if the verdict changes the layout of the text, the page would
+# be blocked for a second.
+MOST_MILLISECONDS = 150
+COMMANDS = 20_000
+
+
+def look(browser):
+    browser.open(URL)
+    drop_a_schedule(browser)
+    drop_a_run(browser)
+    drop_a_log(browser)
+
+
+def drop(browser, name, text):
+    browser.run(f"""const dataTransfer = new DataTransfer();
+      dataTransfer.items.add(new File([{json.dumps(text)}], {json.dumps(name)}));
+      document.body.dispatchEvent(new DragEvent('drop', {{ dataTransfer, bubbles: true, cancelable: true }}))""")
+    browser.wait(f"return document.getElementById('toast').textContent.includes({json.dumps(name)})", name)
+
+
+def read(*parts):
+    with open(os.path.join(TOP, "examples", *parts), encoding="utf-8") as file:
+        return file.read()
+
+
+def drop_a_schedule(browser):
+    text = read("one_command.json")
+    drop(browser, "one.json", text)
+    same(browser, "the cursor of a dropped schedule", "6 of 6", cursor(browser))
+    same(browser, "the dropped schedule", json.loads(text), json.loads(schedule(browser)))
+    drop(browser, "bad.json", text.replace("deliver 1 0", "deliver 01 0"))
+    same(browser, "the mistake in a dropped schedule", '"deliver 01 0"', browser.text("#editor mark"))
+    browser.click("#discard")
+
+
+def drop_a_run(browser):
+    run = {"version": 1, "servers": 3, "workers": 1, "seed": 5, "turns": 40, "loss": 0,
+           "commands": [["1.0 set a x"], ["2.0 set a y"], []]}
+    drop(browser, "run.json", json.dumps(run))
+    browser.click("#worker button")
+    browser.wait("return document.getElementById('run-verdict').textContent.startsWith('the worker chose')", "the run")
+    submitted = [event for event in browser.run("return [...document.querySelectorAll('#rows li')]"
+                                                ".map(row => row.title)") if event.startswith("submit ")]
+    same(browser, "the commands of a dropped run", ["submit 0 1.0 set a x", "submit 1 2.0 set a y"], sorted(submitted))
+    browser.click("#discard")
+
+
+def drop_a_log(browser):
+    drop(browser, "same_order.log", read("logs", "same_order.log"))
+    browser.wait("return document.getElementById('judgement').textContent.startsWith('violation 6 SameOrder ')",
+                 "the verdict on the dropped log")
+    browser.click("#tab-lesson")
+
+
+def long_log():
+    lines = [line for number in range(COMMANDS) for line in (f"submit 1.{number} set k{number} v{number}",
+                                                              f"execute 0 1.{number}", f"reply 1.{number} none")]
+    return "\n".join([*lines, "execute 1 1.1", ""])
+
+
+def judge_a_long_log(browser):
+    """Server 1 begins with the second command. The last line says so, and the page works meanwhile."""
+    browser.click("#tab-judge")
+    log = long_log()
+    browser.run(f"document.getElementById('log').value = {json.dumps(log)}; document.body.offsetHeight")
+    browser.run("window.judged = 0; const real = core.call; core.call = (args, input) => {"
+                "window.judged += args[0] === 'judge'; return real.call(core, args, input); }")
+    time = browser.own_time("judgeLog(core)")
+    wanted = f"violation {3 * COMMANDS + 1} SameOrder server 1 place 0 expected 1.0 found 1.1"
+    browser.wait("return document.getElementById('judgement').textContent.startsWith('violation ')", "the verdict")
+    if time >= MOST_MILLISECONDS:
+        fail(f"the page works for {time:.0f} ms at a log of {len(log)} letters, not less than {MOST_MILLISECONDS}")
+    same(browser, "the verdict on the long log", wanted, browser.text("#judgement"))
+    same(browser, "the logs that the page judged without the worker", 0, browser.run("return window.judged"))
+    say(f"a log of {len(log)} letters takes {time:.0f} ms of processor time of the page")
+    browser.click("#tab-lesson")

@@ -1,0 +1,116 @@
+"""Tries whether the page can be read: the contrast of later events, the size of buttons, the words for a screen reader,
+and the parts that stay in sight in narrow windows. The colours are those that the browser computes."""
+import contextlib
+
+from page_user import URL, act, same
+
+# The least contrast that WCAG 2 asks for, and the least size of a target in pixels.
+LEAST_CONTRAST = 4.5
+LEAST_SIZE = 24
+
+# The contrast of each text of a later event with what is behind it. `alpha` is the product of all opacities.
+CONTRASTS = """
+  const parts = text => text.match(/[\\d.]+/g).map(Number);
+  const alphaOf = part => (part ? parseFloat(getComputedStyle(part).opacity) * alphaOf(part.parentElement) : 1);
+  const over = ([r, g, b, a = 1], under, alpha) => [r, g, b].map((one, at) => one * a * alpha + under[at] * (1 - a * alpha));
+  const light = colour => colour.map(one => one / 255).map(one =>
+    (one <= 0.04045 ? one / 12.92 : ((one + 0.055) / 1.055) ** 2.4))
+    .reduce((sum, one, at) => sum + [0.2126, 0.7152, 0.0722][at] * one, 0);
+  const ratio = (one, other) => { const [a, b] = [light(one), light(other)].sort((x, y) => y - x); return (a + 0.05) / (b + 0.05); };
+  const paper = parts(getComputedStyle(document.getElementById('stage')).backgroundColor);
+  const contrast = part => {
+    const box = part.closest('svg') && part.parentElement.querySelector('rect'), style = getComputedStyle(part);
+    const under = box ? over(parts(getComputedStyle(box).fill), paper, alphaOf(box)) : paper;
+    return ratio(over(parts(part.closest('svg') ? style.fill : style.color), under, alphaOf(part)), under);
+  };
+  const texts = [...document.querySelectorAll('#drawing .later text, #rows .later')];
+  return [texts.length, Math.min(...texts.map(contrast))]"""
+SMALL_BUTTONS = """return [...document.querySelectorAll('button, select')].map(part => [part, part.getBoundingClientRect()])
+  .filter(([, box]) => box.width > 0 && Math.min(box.width, box.height) < %d - 0.5)
+  .map(([part, box]) => `${part.outerHTML} ${box.width} ${box.height}`)""" % LEAST_SIZE
+# Whether each part is in the window, and not under a part that does not contain it.
+HIDDEN = """const at = (x, y) => document.elementFromPoint(x, y);
+  const isSeen = part => { const box = part.getBoundingClientRect(), found = at(box.left + box.width / 2, box.top + box.height / 2);
+    return found !== null && (part.contains(found) || found.contains(part)); };
+  return [...document.querySelectorAll('#next, #back')].concat([...document.querySelectorAll('#rows .here b, #rows .here')].slice(0, 1))
+    .filter(part => !isSeen(part)).map(part => part.outerHTML)"""
+
+
+def look(browser):
+    browser.open(URL)
+    look_at_contrasts(browser)
+    same(browser, "the buttons that are too small", [], browser.run(SMALL_BUTTONS))
+    act(browser, "before 1")
+    browser.click("#next")
+    same(browser, "the words for a screen reader",
+         "event 1, deliver 0 2: sent 1 Accepted from 2 to 0 instance 0 ballot 0", browser.text("#told"))
+    with window(browser, 1280, 800):
+        look_at_a_laptop(browser)
+    for width, height in ((390, 844), (640, 400)):
+        with window(browser, width, height):
+            look_at_a_narrow_window(browser, f"{width}×{height}")
+
+
+def look_at_contrasts(browser):
+    for scheme in ("light", "dark"):
+        with media(browser, "prefers-color-scheme", scheme):
+            measure(browser, scheme)
+            with media(browser, "forced-colors", "active"):
+                measure(browser, f"{scheme}, forced colours")
+
+
+def measure(browser, what):
+    count, least = browser.run(CONTRASTS)
+    same(browser, f"whether many later texts are measured ({what})", True, count > 10)
+    same(browser, f"whether the least contrast of later events, {least:.2f}, is enough ({what})", True,
+         least >= LEAST_CONTRAST)
+
+
+def look_at_a_laptop(browser):
+    browser.open(URL)
+    head, wide, room = browser.run("""const stage = document.getElementById('stage');
+      return [document.querySelector('header').offsetHeight, stage.scrollWidth, stage.clientWidth]""")
+    same(browser, f"whether the header takes one line, {head} px", True, head < 60)
+    same(browser, f"whether three servers fit, {wide} px in {room} px", True, wide <= room)
+
+
+def look_at_a_narrow_window(browser, what):
+    """The steps, the row of the last event and the name of its server must stay in sight at the end of an example."""
+    browser.open(URL)
+    browser.choose("#example", "duelling_revokers")
+    for place in (19, 2, 10, 18):
+        act(browser, f"before {place}")
+        same(browser, f"the hidden parts at {what} after {place} events", [], browser.run(HIDDEN))
+        steps = "document.getElementById('steps').getBoundingClientRect().top >= 0"
+        same(browser, f"whether the bar of the steps stays at {what}", True,
+             browser.run(f"scrollTo(0, 9999); const isSeen = {steps}; scrollTo(0, 0); return isSeen"))
+        name = browser.run("""const top = document.getElementById('heads').getBoundingClientRect().top;
+          const stage = document.getElementById('stage').getBoundingClientRect().top; return Math.round(top - stage)""")
+        same(browser, f"the distance of the names from the top at {what} after {place} events", 0, name)
+
+
+# ---- what only Chromium can emulate
+
+@contextlib.contextmanager
+def media(browser, name, value):
+    chosen = getattr(browser, "chosen_media", [])
+    set_media(browser, chosen + [{"name": name, "value": value}])
+    try:
+        yield
+    finally:
+        set_media(browser, chosen)
+
+
+def set_media(browser, features):
+    browser.chosen_media = features
+    browser.driver.execute_cdp_cmd("Emulation.setEmulatedMedia", {"features": features})
+
+
+@contextlib.contextmanager
+def window(browser, width, height):
+    size = {"width": width, "height": height, "deviceScaleFactor": 1, "mobile": False}
+    browser.driver.execute_cdp_cmd("Emulation.setDeviceMetricsOverride", size)
+    try:
+        yield
+    finally:
+        browser.driver.execute_cdp_cmd("Emulation.clearDeviceMetricsOverride", {})

@@ -1,0 +1,193 @@
+'use strict';
+// Draws the events of the random steps, as conformance/drawing.py does. Servers suspect each other in rounds, messages
+// arrive late, twice or never, and servers are cut off for a while. Everything else moves towards a decision: messages
+// are delivered, and what was decided is executed. The events come from the trace. The program decides whether a
+// suspicion is accepted.
+
+// In percent of the events or messages, except `burst`, which is a number of commands.
+const RATES = { submissions: 15, burst: 2, suspicion: 4, retry: 10, loss: 3, repeats: 3, delay: 6, cuts: 1 };
+// A late message is on its way for fewer events than this.
+const LATE = 30;
+// With more useful messages on their way to a server than this, on average, no command is submitted.
+const CROWDED = 4;
+
+// A random number generator for the random steps. Only the page uses it.
+function diceOf(seed) {
+  let state = seed;
+  return sides => {
+    state = (state + 0x6d2b79f5) | 0;
+    let word = Math.imul(state ^ (state >>> 15), 1 | state);
+    word = (word + Math.imul(word ^ (word >>> 7), 61 | word)) ^ word;
+    return ((word ^ (word >>> 14)) >>> 0) % sides;
+  };
+}
+
+class Drawing {
+  // `isAccepted` tells whether the program accepts an event after a schedule.
+  constructor(dice, isAccepted) {
+    Object.assign(this, { dice, isAccepted, plot: null, victim: null, cuts: new Map(), late: new Map() });
+  }
+
+  chance(rate) { return this.dice(100) < rate; }
+  pick(values) { return values[this.dice(values.length)]; }
+
+  // Takes over a schedule and its trace. The next events are drawn from them.
+  look(schedule, trace) {
+    const { servers } = schedule;
+    Object.assign(this, { schedule, trace, servers, isFresh: true });
+    this.all = Array.from({ length: servers }, (_, server) => server);
+    this.majority = Math.floor(servers / 2) + 1;
+    this.onWay = trace.unheard.filter(pair => this.isUseful(pair));
+    this.next = trace.closing.map(({ next }) => next);
+    this.waiting = trace.closing.map(({ waiting }) => waiting.length);
+    this.sent ??= trace.messages.length;
+    for (; this.sent < trace.messages.length; this.sent += 1) this.delay(trace.messages[this.sent]);
+  }
+
+  get time() { return this.schedule.events.length; }
+
+  delay({ number, to }) {
+    for (const server of to === null ? this.all : [to]) {
+      if (this.chance(RATES.delay)) this.late.set(`${number} ${server}`, this.time + this.dice(LATE));
+    }
+  }
+
+  // The next event. Until the next `look`, messages of the drawn events are not known.
+  draw() {
+    const event = (this.chance(RATES.repeats) && this.repeat()) || (this.chance(92) && this.goOn()) || this.disturb()
+      || this.settle() || this.submit(this.dice(this.servers));
+    this.schedule = withEvent(this.schedule, event);
+    return event;
+  }
+
+  goOn() {
+    const { value, done } = this.plot?.next() ?? { done: true };
+    if (done) this.plot = null;
+    return value ?? null;
+  }
+
+  disturb() {
+    if (this.chance(RATES.cuts)) this.cuts.set(this.victim = this.dice(this.servers), this.time + 10 + this.dice(20));
+    if (this.chance(RATES.suspicion)) this.plot = this.fight();
+    else if (this.chance(RATES.submissions) && this.onWay.length <= CROWDED * this.servers) this.plot = this.burst();
+    else if (this.chance(RATES.retry)) return this.retry();
+    return this.goOn();
+  }
+
+  settle() {
+    return (this.chance(60) && this.execute()) || this.deliver() || this.execute() || this.retry()
+      || (this.chance(70) && this.unblock()) || null;
+  }
+
+  // ---- commands
+
+  submit(server) { return `submit ${server} ${commandFor(this.schedule, server)}`; }
+
+  * burst(server = this.dice(this.servers)) {
+    for (let left = 1 + this.dice(RATES.burst); left > 0; left -= 1) yield this.submit(server);
+  }
+
+  isLearned(server, instance) { return this.trace.slot(server, instance).learned !== null; }
+
+  execute() {
+    const ready = this.all.filter(server => this.isLearned(server, this.next[server]));
+    if (ready.length === 0) return null;
+    const server = this.pick(ready);
+    this.next[server] += 1;
+    return `execute ${server}`;
+  }
+
+  retry() {
+    const ready = this.all.filter(server => this.waiting[server] > 0);
+    if (ready.length === 0) return null;
+    const server = this.pick(ready);
+    this.waiting[server] -= 1;
+    return `retry ${server}`;
+  }
+
+  // ---- suspicions
+
+  // The suspicion, if the program accepts it after the events so far.
+  suspicion(server, other) {
+    const event = `suspect ${server} ${other}`;
+    return this.isAccepted(this.schedule, event) ? event : null;
+  }
+
+  // A suspicion of the server that owns the instance for which another server waits.
+  unblock() {
+    const server = this.dice(this.servers), owner = this.next[server] % this.servers;
+    return owner === server ? null : this.suspicion(server, owner);
+  }
+
+  // Rounds of suspicions of one server, usually the same one as before. Chance decides how far a round gets, so votes
+  // and promises of several ballots exist together.
+  * fight() {
+    if (this.victim === null || this.chance(25)) this.victim = this.dice(this.servers);
+    const victim = this.victim % this.servers, others = this.all.filter(server => server !== victim);
+    if (others.length === 0) return;
+    if (this.chance(60)) yield* this.burst(victim);
+    for (let left = this.pick([1, 1, 2, 3]); left > 0; left -= 1) {
+      const first = yield* this.messagesSent(), event = this.suspicion(this.pick(others), victim);
+      if (!event) continue;
+      yield event;
+      yield* this.takeRound(first);
+    }
+  }
+
+  // The number of messages. In the meantime other events are drawn if the trace is not new.
+  * messagesSent() {
+    this.isFresh = false;
+    while (!this.isFresh) yield null;
+    return this.trace.messages.length;
+  }
+
+  // Delivers what follows from the messages of a suspicion, usually until a majority learned the value.
+  * takeRound(first) {
+    const isWhole = this.chance(60);
+    for (const kind of ['Prepare', 'Promise', 'Propose', 'Accepted', 'Learn']) {
+      yield* this.messagesSent();
+      if (kind === 'Accepted' && !isWhole && this.chance(50)) return;
+      const instance = this.trace.messages[first]?.instance;
+      const isOfRound = message => message?.kind === kind && message.instance === instance && message.number >= first;
+      const pairs = this.onWay.filter(({ number }) => isOfRound(this.trace.messages[number]));
+      const some = isWhole ? pairs : pairs.filter(() => this.chance(70));
+      for (const pair of some.slice(0, kind === 'Learn' ? this.servers : this.majority)) yield this.handOver(pair);
+    }
+  }
+
+  // ---- messages
+
+  // Delivers a useful message, usually the oldest one.
+  deliver() {
+    const pairs = this.onWay.filter(pair => this.reaches(pair));
+    if (pairs.length === 0) return null;
+    return this.handOver(this.chance(30) ? this.pick(pairs) : pairs[0]);
+  }
+
+  // Whether the message is neither late nor between servers of which one is cut off.
+  reaches({ number, to }) {
+    const { from } = this.trace.messages[number];
+    return (this.late.get(`${number} ${to}`) ?? 0) <= this.time
+      && [from, to].every(server => (this.cuts.get(server) ?? 0) <= this.time);
+  }
+
+  // Whether the receiver of a message has not learned its instance yet, or may need the message nevertheless.
+  isUseful({ number, to }) {
+    const { kind, instance } = this.trace.messages[number];
+    return ['Suggest', 'Skip'].includes(kind) || !this.isLearned(to, instance)
+      || (kind === 'Learn' && instance % this.servers === to);
+  }
+
+  handOver({ number, to }) {
+    this.onWay = this.onWay.filter(pair => pair.number !== number || pair.to !== to);
+    return `${this.chance(RATES.loss) ? 'lose' : 'deliver'} ${number} ${to}`;
+  }
+
+  // Delivers a recent message again.
+  repeat() {
+    const isHeard = ({ text, refusal }) =>
+      text.startsWith('deliver ') && !refusal && !this.trace.lost.has(text.slice('deliver '.length));
+    const heard = this.trace.events.slice(-60).filter(isHeard);
+    return heard.length > 0 ? this.pick(heard).text : null;
+  }
+}

@@ -1,0 +1,103 @@
+'use strict';
+// Files that the user opens or drops on the page, and the worker that judges long logs.
+
+// In letters. A log up to this length is judged within some milliseconds.
+const JUDGED_AT_ONCE = 50_000;
+// In bytes.
+const LONGEST_FILE = 100_000_000;
+
+// ---- the worker
+
+// `wanted` is the newest question, as { text, whenDone }, or null if nobody waits for an answer.
+const judging = { worker: null, isBusy: false, wanted: null };
+
+// The script of the worker. It starts with the source of the class Core, and gets the compiled module first.
+function judgeForPage() {
+  let core;
+  onmessage = ({ data: { module, text } }) => {
+    if (module) core = new Core(module, () => {});
+    else postMessage(core.call(['judge'], text));
+  };
+}
+
+function workerOf(module) {
+  const script = `'use strict';\n${Core}\n(${judgeForPage})();\n`;
+  const place = URL.createObjectURL(new Blob([script], { type: 'text/javascript' }));
+  const worker = new Worker(place);
+  worker.postMessage({ module });
+  return worker;
+}
+
+// Judges a log in the worker. If another log is wanted in the meantime, the answer is dropped.
+function judgeInWorker(text, whenDone) {
+  judging.wanted = { text, whenDone };
+  if (judging.isBusy) return;
+  judging.worker ??= workerOf(core.module);
+  judging.isBusy = true;
+  judging.worker.onmessage = ({ data }) => answered(text, data);
+  judging.worker.onerror = ({ message }) => {
+    judging.worker = null;
+    answered(text, { status: 5, printed: '', said: `mencius: the worker stopped: ${message}\n` });
+  };
+  judging.worker.postMessage({ text });
+}
+
+function answered(text, answer) {
+  const { wanted } = judging;
+  judging.isBusy = false;
+  if (wanted === null) return;
+  if (wanted.text !== text) {
+    judgeInWorker(wanted.text, wanted.whenDone);
+    return;
+  }
+  judging.wanted = null;
+  wanted.whenDone(answer);
+}
+
+// ---- files
+
+// Opens a schedule, a run, the journal of a run, or a log.
+async function openFile(file) {
+  if (file.size > LONGEST_FILE) {
+    say(`${file.name} is too long for the page. Judge it with mencius judge.`);
+    return;
+  }
+  const text = await file.text();
+  if (text.trimStart().startsWith('{')) openScenario(file.name, text);
+  else openLog(file.name, text);
+}
+
+function openScenario(name, text) {
+  // The first line of a journal is a scenario, and a report follows.
+  const found = [text, text.split('\n')[0]].find(part => core.call(['check'], part).status === 0);
+  const isRun = found && / workers /.test(core.call(['check'], found).printed);
+  if (!found || isRun) {
+    openDraft(text);
+    say(isRun ? `${name} is a run. The button below its text draws a schedule from it.` : `${name} has a mistake.`);
+    return;
+  }
+  const schedule = readScenario(found);
+  if (open(schedule)) say(`This is ${name}. Undo restores the former schedule.`);
+}
+
+function openLog(name, text) {
+  setTab('judge');
+  $('log').value = text;
+  $('log').dispatchEvent(new Event('input'));
+  say(`This is the log ${name}.`);
+}
+
+function wireFiles() {
+  $('open').onclick = () => $('file').click();
+  $('file').onchange = () => {
+    const [file] = $('file').files;
+    if (file) openFile(file);
+    $('file').value = '';
+  };
+  addEventListener('dragover', event => event.preventDefault());
+  addEventListener('drop', event => {
+    event.preventDefault();
+    const [file] = event.dataTransfer.files;
+    if (file) openFile(file);
+  });
+}

@@ -1,0 +1,33 @@
+/** The result of a call. Both texts are copies, so you may keep and change them. */
+export interface Answer {
+  /** The exit status: 0 is success, and `mencius help TASK` lists the others. */
+  status: number;
+  /** Whether the call read its input. */
+  asked: boolean;
+  /** The bytes that the program writes to standard output, in UTF-8. */
+  printed: Uint8Array;
+  /** The bytes that the program writes to standard error, in UTF-8. */
+  said: Uint8Array;
+}
+
+/**
+ * Calls the program `mencius`.
+ *
+ * @example
+ * const scenario = '{"version":1,"servers":1,"events":[]}';
+ * const { status, printed } = mencius(['replay'], new TextEncoder().encode(scenario));
+ * console.log(status, new TextDecoder().decode(printed));
+ *
+ * @param args the words of the command line, such as `['replay', '--strict']`
+ * @param input the bytes of standard input; the default is no bytes
+ * @throws TypeError if `args` is not an array of strings and bytes, or if `input` is not bytes
+ */
+export function mencius(args: readonly (string | Uint8Array)[], input?: Uint8Array): Answer;
+
+/**
+ * Returns what each server knows after a scenario of `replay`, in the format of docs/EMBEDDING.md, "What servers know".
+ *
+ * @param input the bytes of the scenario
+ * @throws TypeError if `input` is not bytes
+ */
+export function state(input: Uint8Array): Answer;
