@@ -1,4 +1,5 @@
 -- Facts about the texts that tasks write.
 pub mod EventTexts
+pub mod KeptEvents
 pub mod SentAcceptances
 pub mod JoinedTexts

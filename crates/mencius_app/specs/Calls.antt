@@ -6,6 +6,7 @@ use Rattle.clap.specs.declared.error.kind.ErrorKind.{ErrorKind}
 use Rattle.mencius_io.specs.Streams.{HasFailed, StreamState, WritesFront, most_failed_calls}
 use Rattle.mencius_command_line.specs.CommandLine.{TaskState, are_texts, asked_check, asked_draw, asked_judge, asked_replay, asked_run, asked_trace, faults, line_of, task_in}
 use Rattle.mencius_command_line.specs.Help.{shown_for}
+use Rattle.mencius_command_line.specs.declared.trace_options.TraceOptions.{TraceOptions}
 use Rattle.mencius_input.specs.declared.kind.Kind.TheVariants as input
 use Rattle.mencius_input.specs.Scenario.{scenario}
 use Rattle.mencius_app.specs.Check.{check_task}
@@ -14,10 +15,12 @@ use Rattle.mencius_app.specs.Ending.{failure_in}
 use Rattle.mencius_app.specs.Failures.{ExplainsAs, ExplainsByFields, ExplainsIn, Explanation, Fails}
 use Rattle.mencius_app.specs.Input.{HasFault, unless_long}
 use Rattle.mencius_app.specs.Judgements.{ExplainsByLine, judge_task}
-use Rattle.mencius_app.specs.Replay.{replay_task, trace_task}
+use Rattle.mencius_app.specs.Replay.{replay_task}
 use Rattle.mencius_app.specs.Run.{run_task}
+use Rattle.mencius_app.specs.Trace.{trace_task}
 use Rattle.mencius_app.specs.Tasks.{AsksReader, IsCause, Streams, Task, Writes}
 use Rattle.mencius_app.specs.declared.no_task.TheConstants.{NOT_TEXT}
+use Rattle.mencius_trace.specs.declared.view.View.{View}
 use Rattle.mencius_app.specs.declared.ending.Ending.{Ending}
 use Rattle.mencius_app.specs.declared.ending.Ending.TheVariants.{Done, Refused, BadCommandLine, Failed, BoardFailed}
 use Rattle.mencius_app.specs.declared.call.Begun.{Begun}
@@ -26,10 +29,15 @@ use Rattle.mencius_app.specs.declared.call.RunOptions.{RunOptions}
 
 -- ---- the requested task
 
--- the task that a command line requests. A drawing without a valid part of the trace can write no text
+-- the view that the options of `trace` request
+abbrev pub view_of : TraceOptions → View
+view_of x = record { is_json = x.is_json; instance = x.instance; command = x.command; server = x.server }
+
+-- the task that a command line requests. A trace or a drawing whose options have a bad value can write no text
 abbrev pub task_of : TaskState → Task
 task_of (asked_replay is_strict) = replay_task
-task_of asked_trace = trace_task
+task_of (asked_trace (Some options)) = trace_task (view_of options)
+task_of (asked_trace None) = record { IsText = λ known text is_clean. ⊥; IsBadInput = HasFault (unless_long scenario) }
 task_of (asked_draw (Some options)) = draw_task options
 task_of (asked_draw None) = record { IsText = λ known text is_clean. ⊥; IsBadInput = HasFault (unless_long scenario) }
 task_of asked_check = check_task

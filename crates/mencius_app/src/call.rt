@@ -2,7 +2,7 @@
 
 ghost use Rattle.std.specs.Prelude.{◌≡◌, ◌≢◌, ◌⊎◌, IfErr, IfOk, OnOk};
 ghost use Rattle.mencius_command_line.specs.CommandLine.{bytes_of, task_state};
-ghost use Rattle.mencius_app.specs.Calls.{AsksAs, AsksFor, AsksReaderAs, Complains, EndsCall, EndsTask, IfEnded, IfRun, IsUnread, explanation_of, is_reporting, task_of, task_with};
+ghost use Rattle.mencius_app.specs.Calls.{AsksAs, AsksFor, AsksReaderAs, Complains, EndsCall, EndsTask, IfEnded, IfRun, IsUnread, explanation_of, is_reporting, task_of, task_with, view_of};
 ghost use Rattle.mencius_app.specs.Failures.{FailsReading};
 ghost use Rattle.mencius_app.specs.Tasks.{IsOutput, streams};
 
@@ -17,8 +17,9 @@ use crate::runs::run_explained;
 use crate::traces::read_trace;
 use crate::turns::read_turns;
 use mencius_board::Open;
-use mencius_command_line::{Task, are_texts, read_arguments};
+use mencius_command_line::{Task, TraceOptions, are_texts, read_arguments};
 use mencius_io::{Failure, Sink, Source, write_all};
+use mencius_trace::View;
 use std::alloc::Global;
 use std::sync::Wait;
 use std::thread::Threads;
@@ -156,7 +157,19 @@ fn is_reporting(task: &Task) -> bool
     match task {
         Task::Replay { is_strict } => *is_strict,
         Task::Judge { .. } => true,
-        Task::Trace | Task::Draw(_) | Task::Check | Task::Run { .. } => false,
+        Task::Trace(_) | Task::Draw(_) | Task::Check | Task::Run { .. } => false,
+    }
+}
+
+// Returns the view that the options of `trace` request.
+fn view_of(options: TraceOptions) -> View
+    ensures { result ≡ view_of options }
+{
+    View {
+        is_json: options.is_json,
+        instance: options.instance,
+        command: options.command,
+        server: options.server,
     }
 }
 
@@ -176,7 +189,7 @@ fn read_task<R: Source>(
 {
     match task {
         Task::Replay { .. } => Ok(read_replay(alloc, source)),
-        Task::Trace => Ok(read_trace(alloc, source)),
+        Task::Trace(options) => Ok(read_trace(alloc, source, &view_of(options))),
         Task::Draw(options) => Ok(read_picture(alloc, source, &options)),
         Task::Check => Ok(read_check(alloc, source)),
         Task::Judge { is_brief, is_json } => {

@@ -12,6 +12,7 @@ use crate::output::{Output, deliver};
 use crate::traces::traced;
 use mencius_draw::{MOST_LEVELS, Options, TooLarge, picture};
 use mencius_io::{Failure, IoFault, Sink, Source};
+use mencius_trace::View;
 use std::alloc::{AllocError, Global};
 
 /// Reads a scenario to its end, and writes a picture of its [`trace`](crate::trace), or of the events that `options`
@@ -51,7 +52,13 @@ pub(crate) fn read_picture<R: Source>(
     ensures asked { AsksReader (R.state source.old) (R.state source.new) }
 {
     let scenario = read_input(alloc, source)?;
-    let trace = traced(alloc, scenario.members, scenario.course)?;
+    let whole = View {
+        is_json: false,
+        instance: None,
+        command: None,
+        server: None,
+    };
+    let trace = traced(alloc, scenario.members, scenario.course, &whole)?;
     let text = drawn(alloc, trace.as_str(), options)?;
     Ok(Output {
         text,

@@ -4,51 +4,65 @@ ghost use Rattle.std.specs.Prelude.{◌≡◌, ◌++◌, [], true, string_bytes,
 ghost use Rattle.std.specs.Io.KnownBytes.{IsAtEnd};
 ghost use Rattle.mencius_app.specs.Failures.{ExplainsAs, Fails, FailsReading};
 ghost use Rattle.mencius_app.specs.Input.{HasFault, unless_long};
-ghost use Rattle.mencius_app.specs.Replay.{salt_of_events, trace_task};
+ghost use Rattle.mencius_app.specs.Replay.{salt_of_events};
+ghost use Rattle.mencius_app.specs.Trace.{chosen_text, trace_task};
 ghost use Rattle.mencius_app.specs.Tasks.{AsksLittle, AsksReader, IsOutput, Writes, streams};
 ghost use Rattle.mencius_cluster.specs.Salt.{hasher_with};
 ghost use Rattle.mencius_cluster.specs.State.{trace_of};
-ghost use Rattle.mencius_trace.specs.LastLines.{events_text, trace_text};
+ghost use Rattle.mencius_model.specs.Outcomes.{trace_from};
+ghost use Rattle.mencius_trace.specs.LastLines.{events_text, view_text};
+ghost use Rattle.mencius_trace.specs.Suggestions.{suggested_instances};
 ghost use Rattle.mencius_input.specs.Scenario.{scenario};
 
 use crate::input::read_input;
 use crate::output::{Output, deliver};
-use mencius_base::{Members, NoMemory};
+use crate::replays::step_one;
+use mencius_base::{CommandId, Event, Members, NoMemory};
 use mencius_cluster::{Cluster, salt_after};
 use mencius_input::{Events, Kind};
 use mencius_io::{Failure, Sink, Source};
-use mencius_trace::{push_closing, tell};
+use mencius_trace::{View, push_closing, push_opening, suggested_instances, tell};
 use std::alloc::Global;
 
 /// Reads a scenario to its end and steps a new cluster through its events. Writes the effects of each event, one fact
-/// on each line. Then writes how far each server is, and which messages were not heard. The whole text is made before
-/// any of it is written. If memory runs out at an event, the trace fails with `NoMemory`.
-pub fn trace<R: Source, W: Sink>(alloc: Global, source: &mut R, sink: &mut W) -> Result<(), Failure>
+/// on each line. Then writes how far each server is, and which messages were not heard. The view says whether the lines
+/// are JSON objects, and which of them are written. The whole text is made before any of it is written. If memory runs
+/// out at an event, the trace fails with `NoMemory`.
+pub fn trace<R: Source, W: Sink>(
+    alloc: Global,
+    source: &mut R,
+    sink: &mut W,
+    view: &View,
+) -> Result<(), Failure>
     // All bytes were read, they are a scenario, and the text of its trace was written.
     ensures end { OnOk result (IsAtEnd (R.state source.new).bytes) }
-    ensures done { OnOk result (Writes trace_task (streams (R.state source.old) (R.state source.new)
+    ensures done { OnOk result (Writes (trace_task view.now) (streams (R.state source.old) (R.state source.new)
         (W.state sink.old) (W.state sink.new)) true) }
 
     // The cause of a fault. In every case, the use of the reader and the writer is limited.
-    ensures fault { IfErr result (Fails trace_task (ExplainsAs Kind.Replay) (streams (R.state source.old) (R.state source.new)
+    ensures fault { IfErr result (Fails (trace_task view.now) (ExplainsAs Kind.Replay) (streams (R.state source.old) (R.state source.new)
         (W.state sink.old) (W.state sink.new))) }
     ensures asked { AsksLittle (streams (R.state source.old) (R.state source.new)
         (W.state sink.old) (W.state sink.new)) }
 {
-    deliver(sink, read_trace(alloc, source))?;
+    deliver(sink, read_trace(alloc, source, view))?;
     Ok(())
 }
 
 /// Reads a scenario and makes the text of its trace.
-pub(crate) fn read_trace<R: Source>(alloc: Global, source: &mut R) -> Result<Output, Failure>
+pub(crate) fn read_trace<R: Source>(
+    alloc: Global,
+    source: &mut R,
+    view: &View,
+) -> Result<Output, Failure>
     ensures end { OnOk result (IsAtEnd (R.state source.new).bytes) }
-    ensures made { IfOk result (IsOutput trace_task (R.state source.old).bytes) }
+    ensures made { IfOk result (IsOutput (trace_task view.now) (R.state source.old).bytes) }
     ensures fault { IfErr result (FailsReading (HasFault (unless_long scenario)) (ExplainsAs Kind.Replay)
         (R.state source.old) (R.state source.new)) }
     ensures asked { AsksReader (R.state source.old) (R.state source.new) }
 {
     let scenario = read_input(alloc, source)?;
-    let text = traced(alloc, scenario.members, scenario.course)?;
+    let text = traced(alloc, scenario.members, scenario.course, view)?;
     Ok(Output {
         text,
         is_clean: true,
@@ -56,13 +70,33 @@ pub(crate) fn read_trace<R: Source>(alloc: Global, source: &mut R) -> Result<Out
     })
 }
 
-/// Makes the text of the trace of a new cluster that steps through these events.
-pub(crate) fn traced(alloc: Global, members: Members, events: Events) -> Result<String, NoMemory>
-    ensures text { IfOk result (λ s. string_bytes s ≡ trace_text members events) }
+/// Makes the text of the trace of a new cluster that steps through these events, in the form of the view.
+pub(crate) fn traced(
+    alloc: Global,
+    members: Members,
+    events: Events,
+    view: &View,
+) -> Result<String, NoMemory>
+    ensures text { IfOk result (λ s. string_bytes s ≡ chosen_text view.now members events) }
+{
+    match view.command {
+        Some(id) => traced_command(alloc, members, events, view, id),
+        None => traced_events(alloc, members, events, view),
+    }
+}
+
+// Makes the text of the trace of a view that chooses no command.
+fn traced_events(
+    alloc: Global,
+    members: Members,
+    events: Events,
+    view: &View,
+) -> Result<String, NoMemory>
+    ensures text { IfOk result (λ s. string_bytes s ≡ view_text view.now [] members events) }
 {
     let mut cluster = Cluster::with_salt(alloc, members, salt_after(0, events.commands()))?;
     let mut text = String::new(alloc);
-    push_trace(alloc, &mut text, &mut cluster, events)?;
+    push_trace(alloc, &mut text, view, &mut cluster, events)?;
     Ok(text)
 }
 
@@ -70,36 +104,125 @@ pub(crate) fn traced(alloc: Global, members: Members, events: Events) -> Result<
 fn push_trace(
     alloc: Global,
     text: &mut String,
+    view: &View,
     cluster: &mut Cluster,
     events: Events,
 ) -> Result<(), NoMemory>
     requires journal { cluster.old.journal ≡ [] }
     requires salt { cluster.old.hasher ≡ hasher_with (salt_of_events events) }
     ensures { OnOk result (string_bytes text.new
-        ≡ string_bytes text.old ++ trace_text cluster.old.members events) }
+        ≡ string_bytes text.old ++ view_text view.now [] cluster.old.members events) }
 {
-    let servers = cluster.members().count();
-    writeln!(text, "servers {servers}")?;
-    push_events(alloc, text, cluster, events)
+    push_opening(text, view, cluster.members())?;
+    push_events(alloc, text, view, cluster, events)
 }
 
-// Steps a cluster through the events, and adds each event with its effects. After the last event, adds the closing
+// Makes the text of the trace of a view that chooses a command. The events are stepped twice, because the first lines
+// may concern an instance that the command is suggested for later.
+fn traced_command(
+    alloc: Global,
+    members: Members,
+    events: Events,
+    view: &View,
+    id: CommandId,
+) -> Result<String, NoMemory>
+    ensures text { IfOk result (λ s. string_bytes s
+        ≡ view_text view.now (suggested_instances (trace_from members [] events) id) members events) }
+{
+    let salt = salt_after(0, events.commands());
+    let mut cluster = Cluster::with_salt(alloc, members, salt)?;
+    let events = step_and_keep(alloc, &mut cluster, events)?;
+    let suggested = suggested_instances(alloc, &cluster, id)?;
+    let mut cluster = Cluster::with_salt(alloc, members, salt)?;
+    let mut text = String::new(alloc);
+    push_kept_trace(
+        alloc,
+        &mut text,
+        view,
+        suggested.as_slice(),
+        &mut cluster,
+        events,
+    )?;
+    Ok(text)
+}
+
+// Adds the trace of a new cluster, which has the salt of these events, for a view that chooses a command.
+fn push_kept_trace(
+    alloc: Global,
+    text: &mut String,
+    view: &View,
+    suggested: &[u32],
+    cluster: &mut Cluster,
+    events: Vec<Event>,
+) -> Result<(), NoMemory>
+    requires journal { cluster.old.journal ≡ [] }
+    requires salt { cluster.old.hasher ≡ hasher_with (salt_of_events events.items) }
+    ensures { OnOk result (string_bytes text.new
+        ≡ string_bytes text.old ++ view_text view.now suggested.now cluster.old.members events.items) }
+{
+    push_opening(text, view, cluster.members())?;
+    push_kept_events(alloc, text, view, suggested, cluster, events)
+}
+
+// Steps a cluster, which has the salt of the events, through the events, and returns the events.
+fn step_and_keep(
+    alloc: Global,
+    cluster: &mut Cluster,
+    events: Events,
+) -> Result<Vec<Event>, NoMemory>
+    requires salt { cluster.old.hasher ≡ hasher_with (salt_of_events events) }
+    ensures kept { IfOk result (λ kept. kept.items ≡ events) }
+    ensures trace { OnOk result (trace_of cluster.new
+        ≡ trace_from cluster.old.members (trace_of cluster.old) events) }
+{
+    let mut kept = Vec::new(alloc);
+    for event in events {
+        kept.push(event.clone()?)?;
+        step_one(cluster, event)?;
+    }
+    Ok(kept)
+}
+
+// Steps a cluster through the events, and adds the chosen lines of each event. After the last event, adds the closing
 // lines.
 fn push_events(
     alloc: Global,
     text: &mut String,
+    view: &View,
     cluster: &mut Cluster,
     events: Events,
 ) -> Result<(), NoMemory>
     ensures { OnOk result (string_bytes text.new ≡ string_bytes text.old
-        ++ events_text cluster.old.members (trace_of cluster.old) 0 events) }
+        ++ events_text view.now [] cluster.old.members (trace_of cluster.old) 0 events) }
 {
     let count = events.len();
     let mut place = 0usize;
     for event in events {
         prove!(place < count);
-        tell(alloc, text, cluster, place, event)?;
+        tell(alloc, text, view, &[], cluster, place, event)?;
         place += 1;
     }
-    push_closing(alloc, text, cluster)
+    push_closing(alloc, text, view, &[], cluster)
+}
+
+// Does the same for a view that chooses a command.
+fn push_kept_events(
+    alloc: Global,
+    text: &mut String,
+    view: &View,
+    suggested: &[u32],
+    cluster: &mut Cluster,
+    events: Vec<Event>,
+) -> Result<(), NoMemory>
+    ensures { OnOk result (string_bytes text.new ≡ string_bytes text.old
+        ++ events_text view.now suggested.now cluster.old.members (trace_of cluster.old) 0 events.items) }
+{
+    let count = events.len();
+    let mut place = 0usize;
+    for event in events {
+        prove!(place < count);
+        tell(alloc, text, view, suggested, cluster, place, event)?;
+        place += 1;
+    }
+    push_closing(alloc, text, view, suggested, cluster)
 }

@@ -10,9 +10,11 @@ use Rattle.clap.specs.declared.error.kind.ErrorKind.TheVariants as kind
 use Rattle.mencius_base.specs.Command.{is_key_length, is_name}
 use Rattle.mencius_draw.specs.declared.options.Options.{Options}
 use Rattle.mencius_command_line.specs.DrawOptions.{draw_task, options_of, part_faults}
-use Rattle.mencius_command_line.specs.Flags.{has_flag}
+use Rattle.mencius_command_line.specs.Flags.{has_flag, json_option}
+use Rattle.mencius_command_line.specs.TraceOptions.{trace_faults, trace_options_of, trace_task}
 use Rattle.mencius_command_line.specs.declared.line.Task.{Task}
 use Rattle.mencius_command_line.specs.declared.line.Task.TheVariants as task
+use Rattle.mencius_command_line.specs.declared.trace_options.TraceOptions.{TraceOptions}
 
 -- ---- the program
 
@@ -43,10 +45,6 @@ lookup_option = record (new_rule (codes "lookup")) { long = Some (codes "lookup"
 abbrev pub replay_task : App
 replay_task = with_rule (new_app (codes "replay")) strict_option
 
--- the task `trace`, which has no options
-abbrev pub trace_task : App
-trace_task = new_app (codes "trace")
-
 -- the task `check`, which has no options
 abbrev pub check_task : App
 check_task = new_app (codes "check")
@@ -54,10 +52,6 @@ check_task = new_app (codes "check")
 -- the flag `--brief`
 abbrev pub brief_option : Rule
 brief_option = record (new_rule (codes "brief")) { long = Some (codes "brief"); action = Some SetTrue }
-
--- the flag `--json`
-abbrev pub json_option : Rule
-json_option = record (new_rule (codes "json")) { long = Some (codes "json"); action = Some SetTrue }
 
 -- the task `judge`, with its options
 abbrev pub judge_task : App
@@ -79,11 +73,12 @@ program = with_subcommand (with_subcommand with_replays judge_task.top) run_task
 
 -- ---- the requested task
 
--- the task that a command line requests, with its options. `part` is `None` if a place in the options is not a number,
--- and `key` is `None` if no key is looked up
+-- the task that a command line requests, with its options. `choice` is `None` if a word in the options names no
+-- instance, command or server. `part` is `None` if a place in the options is not a number, and `key` is `None` if no key
+-- is looked up
 pub data TaskState : Type 0 where
   asked_replay : (is_strict : Bool) → TaskState
-  asked_trace : TaskState
+  asked_trace : (choice : Option TraceOptions) → TaskState
   asked_draw : (part : Option Options) → TaskState
   asked_check : TaskState
   asked_judge : (is_brief is_json : Bool) → TaskState
@@ -96,7 +91,7 @@ task_by_name None = asked_replay false
 task_by_name (Some (name, rows)) =
     if bytes_eq name (codes "run")
     then asked_run (has_flag (codes "journal") rows) (has_flag (codes "observations") rows) (first_of (codes "lookup") rows)
-    else if bytes_eq name (codes "trace") then asked_trace
+    else if bytes_eq name (codes "trace") then asked_trace (trace_options_of rows)
     else if bytes_eq name (codes "draw") then asked_draw (options_of rows)
     else if bytes_eq name (codes "check") then asked_check
     else if bytes_eq name (codes "judge") then asked_judge (has_flag (codes "brief") rows) (has_flag (codes "json") rows)
@@ -121,7 +116,7 @@ task_in words = task_by_name (subcommand_of program (words_read words))
 -- the record of a task of the code
 abbrev pub task_state : Task → TaskState
 task_state (task.Replay is_strict) = asked_replay is_strict
-task_state task.Trace = asked_trace
+task_state (task.Trace options) = asked_trace (Some options)
 task_state (task.Draw options) = asked_draw (Some options)
 task_state task.Check = asked_check
 task_state (task.Judge is_brief is_json) = asked_judge is_brief is_json
@@ -142,7 +137,7 @@ bad_key_faults (Some key) = kind.ValueValidation ∷ []
 -- the faults of the values of a task's options
 abbrev pub value_faults : TaskState → Kinds
 value_faults (asked_replay is_strict) = []
-value_faults asked_trace = []
+value_faults (asked_trace choice) = trace_faults choice
 value_faults (asked_draw part) = part_faults part
 value_faults asked_check = []
 value_faults (asked_judge is_brief is_json) = []

@@ -5,7 +5,9 @@ mod arguments;
 mod draw_options;
 mod line;
 mod pages;
+mod trace_options;
 
 pub use arguments::{are_texts, read_arguments};
 pub use line::{Task, read_command_line};
 pub use pages::text_to_show;
+pub use trace_options::TraceOptions;

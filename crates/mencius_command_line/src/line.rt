@@ -3,10 +3,11 @@
 ghost use Rattle.std.specs.Prelude.{◌≡◌, ◌≤◌, ◌∷◌, false, IfErr, IfOk, Some, codes, length, map, option_copied, option_map, string_bytes};
 ghost use Rattle.clap.specs.declared.builder.command.Command.TheViews.{out-Command as fields_of};
 ghost use Rattle.clap.specs.Words.{FailsBy, HasKind, app_of, first_of, found_of, kind_of, rows_of, rule_of, subcommand_rows_of};
-ghost use Rattle.mencius_command_line.specs.CommandLine.{task_in, task_by_name, task_state, bad_key_faults, brief_option, faults, check_task, is_key, journal_option, json_option, judge_task, lookup_option, observations_option, program, replay_task, run_task, strict_option, trace_task, value_faults, with_joined_key, with_replays, without_tasks, words_read};
-ghost use Rattle.mencius_command_line.specs.Flags.{has_flag};
+ghost use Rattle.mencius_command_line.specs.CommandLine.{task_in, task_by_name, task_state, bad_key_faults, brief_option, faults, check_task, is_key, journal_option, judge_task, lookup_option, observations_option, program, replay_task, run_task, strict_option, value_faults, with_joined_key, with_replays, without_tasks, words_read};
+ghost use Rattle.mencius_command_line.specs.Flags.{has_flag, json_option};
 
 use crate::draw_options::{draw_command, options_of};
+use crate::trace_options::{TraceOptions, trace_command, trace_options_of};
 use clap::error::ErrorKind;
 use clap::{Arg, ArgAction, ArgMatches, Command, Error};
 use mencius_base::{MOST_KEY_BYTES, is_name};
@@ -21,8 +22,8 @@ pub enum Task {
         /// Whether the replay ends with another exit status if an event is refused.
         is_strict: bool,
     },
-    /// A trace of the scenario on standard input.
-    Trace,
+    /// A trace of the scenario on standard input, or a part of the trace.
+    Trace(TraceOptions),
     /// A picture of a part of the scenario on standard input.
     Draw(Options),
     /// A check of the scenario on standard input.
@@ -51,8 +52,6 @@ const VERSION: &str = "0.1.0";
 const KEY_RULE: &str = "a key has 1 to 64 ASCII letters, digits, `_`, `-` or `.`";
 
 const REPLAY_USAGE: &str = "mencius replay [OPTIONS] < SCENARIO";
-
-const TRACE_USAGE: &str = "mencius trace < SCENARIO";
 
 const CHECK_USAGE: &str = "mencius check < SCENARIO";
 
@@ -123,14 +122,6 @@ fn replay_command<'a>(alloc: Global) -> Result<Command<'a>, AllocError>
         .arg(strict_option(alloc))
 }
 
-// Builds the task `trace`.
-fn trace_command<'a>(alloc: Global) -> Command<'a>
-    ensures trace { app_of result ≡ trace_task }
-    ensures local { (fields_of result).has_globals ≡ false }
-{
-    Command::new(alloc, "trace").override_usage(TRACE_USAGE)
-}
-
 // Builds the task `check`.
 fn check_command<'a>(alloc: Global) -> Command<'a>
     ensures check { app_of result ≡ check_task }
@@ -149,8 +140,8 @@ fn brief_option<'a>(alloc: Global) -> Arg<'a>
         .action(ArgAction::SetTrue)
 }
 
-// Builds the option `--json`.
-fn json_option<'a>(alloc: Global) -> Arg<'a>
+/// Builds the option `--json`.
+pub(crate) fn json_option<'a>(alloc: Global) -> Arg<'a>
     ensures rule { rule_of result ≡ json_option }
     ensures local { result.global ≡ false }
 {
@@ -185,7 +176,7 @@ fn with_replays<'a>(alloc: Global) -> Result<Command<'a>, AllocError>
 {
     without_tasks(alloc)
         .subcommand(replay_command(alloc)?)?
-        .subcommand(trace_command(alloc))?
+        .subcommand(trace_command(alloc)?)?
         .subcommand(draw_command(alloc)?)?
         .subcommand(check_command(alloc))
 }
@@ -276,7 +267,7 @@ fn task_named(alloc: Global, name: &str, options: &ArgMatches) -> Result<Task, E
         });
     }
     if name == "trace" {
-        return Ok(Task::Trace);
+        return Ok(Task::Trace(trace_options_of(alloc, options)?));
     }
     if name == "draw" {
         return Ok(Task::Draw(options_of(alloc, options)?));
@@ -349,19 +340,20 @@ fn key_error(alloc: Global, key: &str) -> Result<Error, AllocError>
 /// cause. For `clap`, the program has a version and these six subcommands:
 ///
 /// - `replay [--strict]`
-/// - `trace`
+/// - `trace [--json] [--instance I] [--command ID] [--server S]`
 /// - `draw [--from EVENT] [--to EVENT] [--dark] [--light]`
 /// - `check`
 /// - `judge [--brief] [--json]`
 /// - `run [--journal] [--observations] [--lookup KEY]`
 ///
-/// A KEY that is not a key of a command is also refused. So is an EVENT that is not a number.
+/// A KEY that is not a key of a command is also refused. So is an EVENT, an I or an S that is not a number, and an ID
+/// that is not the identity of a command.
 ///
 /// # Errors
 ///
 /// The error contains the text to print, and says whether the text goes to standard error. Its exit status is 0 if help
-/// or the version was requested, and 2 for a bad command line. Its kind is `ValueValidation` for a bad KEY or EVENT. It
-/// is `OutOfMemory` if memory ran out, which may happen for any words.
+/// or the version was requested, and 2 for a bad command line. Its kind is `ValueValidation` for a bad value of an
+/// option. It is `OutOfMemory` if memory ran out, which may happen for any words.
 pub fn read_command_line(alloc: Global, words: &[String]) -> Result<Task, Error>
     ensures task { IfOk result (λ task. task_state task ≡ task_in (map string_bytes words.now)) }
     ensures faults { FailsBy (faults (map string_bytes words.now)) result }

@@ -142,14 +142,23 @@ After the last event:
   unheard NUMBER KIND to D  For each message and each addressee, the sender included: the
                             message was neither received there nor lost
 
-Usage: mencius trace < SCENARIO
+Usage: mencius trace [OPTIONS] < SCENARIO
 
 Options:
-  -h, --help  Print help
+      --json          Prints a JSON object in each line, with the same facts
+      --instance <I>  Prints only the lines that concern this instance
+      --command <ID>  Prints only the lines that concern this command: its submission, and the
+                      instances that it is suggested for in the whole schedule
+      --server <S>    Prints only the lines that concern this server: the events that happen
+                      there, and the messages that it sends and that go to it
+  -h, --help          Print help
+
+If several of the last three are given, a line must concern all of them. Each line then begins
+with `event INDEX`. If a fact is printed, the event that it follows is printed too.
 
 Exit status:
   0  done, even if events were refused
-  2  a bad command line
+  2  a bad command line, or an I, ID or S that names nothing
   3  a bad scenario: 21 NotJson, 22 BadShape, 23 BadLimit
   4  reading or writing failed: 24 ReadFailed, 25 WriteFailed
   5  memory ran out: 26 NoMemory
@@ -159,6 +168,8 @@ ran out. The program then printed nothing, unless writing failed.
 
 Examples, at the top of the repository:
   ./mencius trace < examples/duelling_revokers.json
+  ./mencius trace --command 1.0 < examples/revoked_and_suggested_again.json
+  ./mencius trace --json --instance 0 < examples/duelling_revokers.json
   ./mencius run --journal < examples/calm_run.json | sed -n 1p | ./mencius trace
 
 docs/FORMATS.md describes the trace in full, and examples/ has schedules to try.

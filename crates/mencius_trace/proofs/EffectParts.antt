@@ -1,4 +1,4 @@
--- Each part of the text about an accepted event is the one that the definitions give.
+-- Each part of the facts about an accepted event is the one that the definitions give.
 use Rattle.std.proofs.Common.{◌≡◌, ℕ, ◌-◌, ◌<◌, ◌≤◌, Bool, true, false, List, [], ◌∷◌, ◌++◌, Option, Some, None, map, cond, length, refl, sym, ap, ◌∙◌, append-nil, arith, length-append, leb}
 use Rattle.std.specs.Prelude.{IfSome, option_map, nat_lt, nat_le, slice_get}
 use Rattle.std.specs.List.{filter}
@@ -23,11 +23,11 @@ use Rattle.mencius_model.proofs.events.EventLines.{sent_messages-event}
 use Rattle.mencius_model.proofs.rights.EventRights.{NoneHolds}
 use Rattle.mencius_model.proofs.trace.Lists.{get_in}
 use Rattle.mencius_model.proofs.reached.MessageLimits.{IsSmall, sent_small}
+use Rattle.mencius_trace.specs.declared.fact.Fact.{Fact}
 use Rattle.mencius_trace.specs.declared.reaction.Reaction.{Reaction}
-use Rattle.mencius_trace.specs.Effects.{execution_lines, execution_lines_of, instance_of, is_ignored, learned_in, learned_lines, notice, notice_of, notices, reaction, sent_lines}
-use Rattle.mencius_trace.specs.Before.{execution_in, heard_in, is_awaited, skipped_text}
+use Rattle.mencius_trace.specs.Effects.{execution_facts, execution_facts_of, instance_of, is_ignored, learned_facts, notice, notice_of, notices, reaction, sent_fact, sent_facts}
+use Rattle.mencius_trace.specs.Before.{execution_in, heard_in, is_awaited, skipped_facts}
 use Rattle.mencius_trace.specs.After.{execution_after, learned_after, learned_at, messages_from, notice_after, value_learned}
-use Rattle.mencius_trace.specs.Facts.{learned_line, sent_line}
 use Rattle.mencius_trace.proofs.MessageLines.{of_messages_are}
 use Rattle.mencius_model.proofs.trace.Parts.{causes, is_newly_skipped, retry_lines, delivery}
 
@@ -78,41 +78,35 @@ notice_same m w v _ h small taken = refl
 -- ---- instances that were learned
 
 -- a message that was sent adds no line about learning
-one_if : (v : Trace) (a : Bool) (x : Message) → learned_lines v (cond a (Sent x ∷ []) []) ≡ []
-one_if v true x = refl
-one_if v false x = refl
+one_if : (a : Bool) (x : Message) → learned_facts (cond a (Sent x ∷ []) []) ≡ []
+one_if true x = refl
+one_if false x = refl
 
-two_if : (v : Trace) (a d : Bool) (x y : Message)
-    → learned_lines v (cond a (Sent x ∷ []) [] ++ cond d (Sent y ∷ []) []) ≡ []
-two_if v true d x y = one_if v d y
-two_if v false d x y = one_if v d y
+two_if : (a d : Bool) (x y : Message)
+    → learned_facts (cond a (Sent x ∷ []) [] ++ cond d (Sent y ∷ []) []) ≡ []
+two_if true d x y = one_if d y
+two_if false d x y = one_if d y
 
-answered : (v : Trace) (p q i b : ℕ) (answer : Answer) → learned_lines v (answer_lines p q i b answer) ≡ []
-answered v p q i b (Promised vote) = refl
-answered v p q i b (Known x) = refl
-answered v p q i b Silent = refl
+answered : (p q i b : ℕ) (answer : Answer) → learned_facts (answer_lines p q i b answer) ≡ []
+answered p q i b (Promised vote) = refl
+answered p q i b (Known x) = refl
+answered p q i b Silent = refl
 
-proposing : (v : Trace) (p i b : ℕ) (o : Option Value) → learned_lines v (proposal_lines p i b o) ≡ []
-proposing v p i b None = refl
-proposing v p i b (Some x) = refl
+proposing : (p i b : ℕ) (o : Option Value) → learned_facts (proposal_lines p i b o) ≡ []
+proposing p i b None = refl
+proposing p i b (Some x) = refl
 
-suggested : (v : Trace) (p t : ℕ) (o : Option ℕ) → learned_lines v (suggestion p o t) ≡ []
-suggested v p t None = refl
-suggested v p t (Some i) = refl
+suggested : (p t : ℕ) (o : Option ℕ) → learned_facts (suggestion p o t) ≡ []
+suggested p t None = refl
+suggested p t (Some i) = refl
 
-prepared : (m : Membership) (w v : Trace) (p : ℕ) (is : List ℕ) → learned_lines v (map (preparation m w p) is) ≡ []
-prepared m w v p [] = refl
-prepared m w v p (i ∷ is) = prepared m w v p is
+prepared : (m : Membership) (w : Trace) (p : ℕ) (is : List ℕ) → learned_facts (map (preparation m w p) is) ≡ []
+prepared m w p [] = refl
+prepared m w p (i ∷ is) = prepared m w p is
 
-retried : (m : Membership) (w v : Trace) (p : ℕ) (o : Option ℕ) → learned_lines v (retry_lines m w p o) ≡ []
-retried m w v p None = refl
-retried m w v p (Some t) = suggested v p t (free_instance m w p)
-
--- no-op has the same text in all traces
-noop_same : (w v : Trace) (p : ℕ) (js : List ℕ)
-    → learned_lines w (map (λ (j : ℕ). Learned p j Noop) js) ≡ learned_lines v (map (λ (j : ℕ). Learned p j Noop) js)
-noop_same w v p [] = refl
-noop_same w v p (j ∷ js) = ap (λ text. learned_in v (Learned p j Noop) ++ text) (noop_same w v p js)
+retried : (m : Membership) (w : Trace) (p : ℕ) (o : Option ℕ) → learned_facts (retry_lines m w p o) ≡ []
+retried m w p None = refl
+retried m w p (Some t) = suggested p t (free_instance m w p)
 
 -- a value that p has just learned is the learned value in the trace
 module _ (w : Trace) (k p i : ℕ) (x : Value) (unlearned : learned_value w p i ≡ None) where
@@ -130,55 +124,53 @@ undecided false majority (Some y) o x h = absurd (cc)
 
 learned_accepted : (w : Trace) (k p i : ℕ) (o : Option Value) → ((x : Value) → o ≡ Some x → learned_value w p i ≡ None)
     → learned_at (followed_by (Heard k p ∷ w) (decision_lines p i o)) p i (learned_count (decision_lines p i o))
-    ≡ learned_lines (followed_by (Heard k p ∷ w) (decision_lines p i o)) (decision_lines p i o)
+    ≡ learned_facts (decision_lines p i o)
 learned_accepted w k p i None h = refl
 learned_accepted w k p i (Some x) h =
-    let v = Sent (Learn p i x) ∷ Learned p i x ∷ Heard k p ∷ w in
-    ap (value_learned v p i) (just_sent w k p i x (h x refl) (Learn p i x)) ∙ sym (append-nil (learned_line v p i x))
+    ap (value_learned p i) (just_sent w k p i x (h x refl) (Learn p i x))
 
 learned_told : (w : Trace) (k p i : ℕ) (x : Value) (o : Option Value) → learned_value w p i ≡ o
     → learned_at (followed_by (Heard k p ∷ w) (learning_lines p i x o)) p i (learned_count (learning_lines p i x o))
-    ≡ learned_lines (followed_by (Heard k p ∷ w) (learning_lines p i x o)) (learning_lines p i x o)
+    ≡ learned_facts (learning_lines p i x o)
 learned_told w k p i x None h =
-    let v = Learned p i x ∷ Heard k p ∷ w in
-    ap (value_learned v p i) (just w k p i x h) ∙ sym (append-nil (learned_line v p i x))
+    ap (value_learned p i) (just w k p i x h)
 learned_told w k p i x (Some y) h = refl
 
-module _ (m : Membership) (w : Trace) (k p : ℕ) (g : List ℕ) where
+module _ (m : Membership) (w : Trace) (k p : ℕ) (g : List Fact) where
   abbrev on : Option Message → List Line
   on o = delivery m w (Heard k p ∷ w) p o
 
   abbrev past : Option Message → Trace
   past o = followed_by (Heard k p ∷ w) (on o)
 
-  abbrev IsLearnedText : Option Message → Type 0
-  IsLearnedText o = learned_after (past o) p g (learned_count (on o)) o ≡ learned_lines (past o) (on o)
+  abbrev AreLearned : Option Message → Type 0
+  AreLearned o = learned_after (past o) p g (learned_count (on o)) o ≡ learned_facts (on o)
 
-  heard_told : (o : Option Message) → g ≡ skipped_text m w p o → IsLearnedText o
+  heard_told : (o : Option Message) → g ≡ skipped_facts m w p o → AreLearned o
   heard_told None h = refl
   heard_told (Some (Suggest q i t)) h =
-      sym (two_if (past (Some (Suggest q i t))) (nat_lt (front m w p) i) (nat_le (promised_ballot w p i) 0) _ _)
+      sym (two_if (nat_lt (front m w p) i) (nat_le (promised_ballot w p i) 0) _ _)
   heard_told (Some (Skip q first stop)) h =
-      h ∙ noop_same w (past (Some (Skip q first stop))) p (filter (is_newly_skipped m w p q first stop) instances)
+      h
   heard_told (Some (Accepted q to i b)) h =
       learned_accepted w k p i (due_decision_at m w (Heard k p ∷ w) p i b)
       (λ x e. undecided _ _ (learned_value w p i) _ x e)
-  heard_told (Some (Prepare q i b)) h = sym (answered (past (Some (Prepare q i b))) p q i b _)
-  heard_told (Some (Promise q to i b y)) h = sym (proposing (past (Some (Promise q to i b y))) p i b _)
+  heard_told (Some (Prepare q i b)) h = sym (answered p q i b _)
+  heard_told (Some (Promise q to i b y)) h = sym (proposing p i b _)
   heard_told (Some (Propose q i b x)) h =
-      sym (one_if (past (Some (Propose q i b x))) (nat_le (promised_ballot w p i) b) _)
+      sym (one_if (nat_le (promised_ballot w p i) b) _)
   heard_told (Some (Learn q i x)) h = learned_told w k p i x (learned_value w p i) refl
 
-pub learned_same : (m : Membership) (w : Trace) (e : Event) (g : List ℕ)
-    → g ≡ skipped_text m w (server_of e) (heard_in w e)
+pub learned_same : (m : Membership) (w : Trace) (e : Event) (g : List Fact)
+    → g ≡ skipped_facts m w (server_of e) (heard_in w e)
     → learned_after (with_event m w e) (server_of e) g (learned_count (lines m w e)) (heard_in w e)
-    ≡ learned_lines (with_event m w e) (lines m w e)
+    ≡ learned_facts (lines m w e)
 learned_same m w (Submit p command) g h =
-    sym (suggested (with_event m w (Submit p command)) p (length (submitted_commands w)) (free_instance m w p))
+    sym (suggested p (length (submitted_commands w)) (free_instance m w p))
 learned_same m w (Deliver k p) g h = heard_told m w k p g (slice_get (sent_messages w) k) h
 learned_same m w (Lose k p) g h = refl
-learned_same m w (Suspect p q) g h = sym (prepared m w (with_event m w (Suspect p q)) p (covered_instances m w p q))
-learned_same m w (Retry p) g h = sym (retried m w (with_event m w (Retry p)) p (slice_get (waiting_tickets w p) 0))
+learned_same m w (Suspect p q) g h = sym (prepared m w p (covered_instances m w p q))
+learned_same m w (Retry p) g h = sym (retried m w p (slice_get (waiting_tickets w p) 0))
 learned_same m w (Execute p) g h = refl
 
 -- ---- messages that were sent, and instances that were executed
@@ -186,22 +178,22 @@ learned_same m w (Execute p) g h = refl
 pub sent_same : (m : Membership) (w : Trace) (e : Event)
     → messages_from (with_event m w e) (length (sent_messages w))
     (length (sent_messages (with_event m w e)) - length (sent_messages w))
-    ≡ sent_lines (with_event m w e) (length (sent_messages w)) (lines m w e)
+    ≡ sent_facts (length (sent_messages w)) (lines m w e)
 sent_same m w e =
     let v = with_event m w e in
     let ms = messages_of (lines m w e) in
     let all = ap length (sent_messages-event m w e) ∙ length-append (sent_messages w) ms in
     let count : length (sent_messages v) - length (sent_messages w) ≡ length ms = omega (arith, all) in
     ap (messages_from v (length (sent_messages w))) count
-    ∙ of_messages_are (sent_line v) (sent_messages v) (sent_messages w) ms (sent_messages-event m w e)
+    ∙ of_messages_are sent_fact (sent_messages v) (sent_messages w) ms (sent_messages-event m w e)
 
 pub execution_same : (w v : Trace) (e : Event)
-    → execution_after v (server_of e) (is_awaited w (execution_in w e)) (execution_in w e) ≡ execution_lines w v e
+    → execution_after v (server_of e) (is_awaited w (execution_in w e)) (execution_in w e) ≡ execution_facts w v e
 execution_same w v (Execute p) = go (learned_value w p (done w p))
   where
     go : (o : Option Value)
         → execution_after v p (is_awaited w (option_map (λ x. (done w p, x)) o)) (option_map (λ x. (done w p, x)) o)
-        ≡ execution_lines_of w v p (done w p) o
+        ≡ execution_facts_of w v p (done w p) o
     go None = refl
     go (Some Noop) = refl
     go (Some (Ticket t)) = refl

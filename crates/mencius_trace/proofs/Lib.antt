@@ -1,8 +1,9 @@
 pub mod WorkedTraces
 pub mod TextLoops
+pub mod GrownTexts
 pub mod MemberAnswers
 pub mod SkippedLines
 pub mod MessageLines
 pub mod EffectParts
-pub mod EffectTexts
+pub mod EffectLists
 pub mod SettledMessages

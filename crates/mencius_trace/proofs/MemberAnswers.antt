@@ -6,13 +6,14 @@ use Rattle.mencius_base.specs.Limits.{instance_count}
 use Rattle.mencius_base.specs.Members.{IsMember, Membership}
 use Rattle.mencius_base.specs.declared.message.Message.{Message}
 use Rattle.mencius_server.specs.declared.glance.Glance.{Glance}
-use Rattle.mencius_trace.specs.Effects.{count_line, glance, instance_of}
+use Rattle.mencius_trace.specs.Effects.{counts, glance, instance_of}
 use Rattle.mencius_base.specs.declared.event.Event.TheVariants.{Execute}
 use Rattle.mencius_base.specs.declared.message.Value.{Value}
 use Rattle.mencius_model.specs.Trace.{Trace}
 use Rattle.mencius_model.specs.Instance.{learned_value}
 use Rattle.mencius_model.specs.Server.{done}
 use Rattle.mencius_cluster.specs.Answers.{if_member, of_member}
+use Rattle.mencius_trace.specs.declared.fact.Fact.{Fact}
 use Rattle.mencius_trace.specs.Before.{execution_in}
 
 pub of_member_is : {A : Type 0} (m : Membership) (p : ℕ) (o : Option A) → IsMember m p → of_member m p o ≡ o
@@ -29,16 +30,16 @@ execution_in_is m w p i x h e same =
     let value : Some x ≡ learned_value w p i = same ∙ of_member_is m p (learned_value w p i) h in
     rw (← at, ← value) refl
 
--- for a member, the line with the count is the one that its glance gives
+-- for a member, the count is the one that its glance gives
 pub counted_by : (m n : Membership) (w : Trace) (p i j : ℕ) (x : Message) (g : Glance)
-    (result : Result (Unit {0}) AllocError) (old new : List ℕ) → i ≡ instance_of x → n ≡ m
+    (result : Result (Unit {0}) AllocError) (old new : List Fact) → i ≡ instance_of x → n ≡ m
     → (i < instance_count → Some g ≡ if_member m p (glance m w p i))
-    → OnOk result (new ≡ old ++ count_line n p g x)
+    → OnOk result (new ≡ old ++ counts n p g x)
     → OnOk result (IsMember m p → instance_of x < instance_count
-    → new ≡ old ++ count_line m p (glance m w p (instance_of x)) x)
+    → new ≡ old ++ counts m p (glance m w p (instance_of x)) x)
 counted_by m n w p i j x g (Ok _) old new at same known h = λ member small.
     let here : g ≡ glance m w p (instance_of x) =
     if_member_is m p _ _ member
     (subst (λ i. i < instance_count → Some g ≡ if_member m p (glance m w p i)) at known small) in
-    h ∙ ap (λ (y : Membership). old ++ count_line y p g x) same ∙ ap (λ y. old ++ count_line m p y x) here
+    h ∙ ap (λ (y : Membership). old ++ counts y p g x) same ∙ ap (λ y. old ++ counts m p y x) here
 counted_by m n w p i j x g (Err e) old new at same known h = tt

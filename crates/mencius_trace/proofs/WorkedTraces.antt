@@ -1,19 +1,28 @@
 -- The definitions give the expected texts for schedules that were worked by hand.
-use Rattle.std.proofs.Common.{◌≡◌, ℕ, List, [], ◌∷◌, ◌++◌, Some, None, refl, ap, ◌∙◌, nat_cmp}
+use Rattle.std.proofs.Common.{◌≡◌, ℕ, ◌+◌, List, [], ◌∷◌, ◌++◌, Result, Ok, Err, Some, None, refl, ap, ◌∙◌, nat_cmp}
 use Rattle.std.specs.Prelude.{codes}
 use Rattle.std.specs.Cmp.Lexicographic.{slice_cmp, nat_list_cmp_total}
 use Rattle.std.specs.FinMap as finite
 use Rattle.std.specs.FinMap.{get-empty, get-insert}
 use Rattle.std.specs.Fmt.{digits}
 use Rattle.std.specs.List.{flat_map}
+use Rattle.std.specs.Result.{result_unwrap_or}
 use Rattle.mencius_base.specs.declared.command.Command.{Command}
 use Rattle.mencius_base.specs.declared.command.Op.TheVariants.{Set, Get}
 use Rattle.mencius_base.specs.declared.event.Event.{Event}
+use Rattle.mencius_base.specs.declared.refusal.Refusal.{Refusal}
 use Rattle.mencius_base.specs.declared.event.Event.TheVariants.{Submit, Deliver, Lose, Suspect, Retry, Execute}
 use Rattle.mencius_base.specs.Members.{Membership, new_members, numbers_below, instances, most_messages, most_events}
 use Rattle.mencius_model.specs.KeyMap.{map_after}
+use Rattle.mencius_model.specs.Next.{next}
+use Rattle.mencius_model.specs.Trace.{Trace}
 use Rattle.mencius_trace.specs.Words.{former_text}
-use Rattle.mencius_trace.specs.LastLines.{trace_text}
+use Rattle.mencius_trace.specs.declared.fact.Fact.TheVariants.{Refused}
+use Rattle.mencius_trace.specs.declared.view.View.{View}
+use Rattle.mencius_trace.specs.Choice.{concerns_event}
+use Rattle.mencius_trace.specs.Effects.{effects, outcome_facts}
+use Rattle.mencius_trace.specs.EventLines.{chosen_lines, event_start}
+use Rattle.mencius_trace.specs.LastLines.{closing_text, events_text, servers_line, trace_text, whole}
 
 abbrev three : Membership
 three = new_members 3
@@ -21,9 +30,42 @@ three = new_members 3
 abbrev one : Membership
 one = new_members 1
 
--- the text of these lines, with an end of line after each
+-- ---- the text by the outcome of each event, which computes faster
+
+abbrev lines_by : View → List ℕ → Membership → Trace → ℕ → Event → Result Trace Refusal → List ℕ
+lines_by o is m w n e (Ok v) =
+    chosen_lines o is m v n (concerns_event o is m w e) (event_start o n e) (effects m w v e)
+lines_by o is m w n e (Err refusal) =
+    chosen_lines o is m w n (concerns_event o is m w e) (event_start o n e) (Refused refusal ∷ [])
+
+lines_are : (o : View) (is : List ℕ) (m : Membership) (w : Trace) (n : ℕ) (e : Event) (r : Result Trace Refusal)
+    → chosen_lines o is m (result_unwrap_or r w) n (concerns_event o is m w e) (event_start o n e)
+    (outcome_facts m w e r)
+    ≡ lines_by o is m w n e r
+lines_are o is m w n e (Ok v) = refl
+lines_are o is m w n e (Err refusal) = refl
+
+abbrev events_by : View → List ℕ → Membership → Trace → ℕ → List Event → List ℕ
+events_by o is m w n [] = closing_text o is m w
+events_by o is m w n (e ∷ es) =
+    lines_by o is m w n e (next m w e) ++ events_by o is m (result_unwrap_or (next m w e) w) (n + 1) es
+
+events_are : (o : View) (is : List ℕ) (m : Membership) (w : Trace) (n : ℕ) (es : List Event)
+    → events_text o is m w n es ≡ events_by o is m w n es
+events_are o is m w n [] = refl
+events_are o is m w n (e ∷ es) =
+    ap (λ text. text ++ events_text o is m (result_unwrap_or (next m w e) w) (n + 1) es)
+    (lines_are o is m w n e (next m w e))
+    ∙ ap (λ text. lines_by o is m w n e (next m w e) ++ text)
+    (events_are o is m (result_unwrap_or (next m w e) w) (n + 1) es)
+
+text_by : (m : Membership) (es : List Event)
+    → trace_text m es ≡ servers_line m.count ++ events_by whole [] m [] 0 es
+text_by m es = ap (λ text. servers_line m.count ++ text) (events_are whole [] m [] 0 es)
+
+-- the text of these lines, with an end of line after each. The empty list gives the text the form that it computes to
 abbrev text_of : List (List ℕ) → List ℕ
-text_of ls = flat_map (λ l. l ++ codes "\n") ls
+text_of ls = flat_map (λ l. (l ++ codes "\n") ++ []) ls
 
 -- client 1 binds the key `a` to the text `x`
 abbrev set_a : Command
@@ -96,7 +138,7 @@ text_wrong_suspicion reply = text_of
 
 text-wrong_suspicion : trace_text three wrong_suspicion ≡ text_wrong_suspicion (codes "none")
 unfolding numbers_below digits instances most_messages most_events
-text-wrong_suspicion = ap (λ o. text_wrong_suspicion (former_text o)) nothing
+text-wrong_suspicion = text_by three wrong_suspicion ∙ ap (λ o. text_wrong_suspicion (former_text o)) nothing
 
 -- a suggestion comes to an instance at which no-op is decided. No server replies to it, and its ticket waits
 abbrev late_suggestion : List Event
@@ -241,7 +283,7 @@ text_suggested_again reply = text_of
 
 text-suggested_again : trace_text three suggested_again ≡ text_suggested_again (codes "none")
 unfolding numbers_below digits instances most_messages most_events
-text-suggested_again = ap (λ o. text_suggested_again (former_text o)) nothing
+text-suggested_again = text_by three suggested_again ∙ ap (λ o. text_suggested_again (former_text o)) nothing
 
 -- two servers skip their instances below a suggestion, and one Skip is delivered twice
 abbrev skip_before_a_suggestion : List Event
@@ -297,7 +339,8 @@ text_skip_before_a_suggestion reply = text_of
 
 text-skip_before_a_suggestion : trace_text three skip_before_a_suggestion ≡ text_skip_before_a_suggestion (codes "none")
 unfolding numbers_below digits instances most_messages most_events
-text-skip_before_a_suggestion = ap (λ o. text_skip_before_a_suggestion (former_text o)) nothing
+text-skip_before_a_suggestion =
+    text_by three skip_before_a_suggestion ∙ ap (λ o. text_skip_before_a_suggestion (former_text o)) nothing
 
 -- two servers revoke the same instance at the same time, and the greater ballot wins
 abbrev duelling_revokers : List Event
@@ -450,5 +493,6 @@ text_told_back first second = text_of
 text-told_back : trace_text one told_back ≡ text_told_back (codes "none") (codes "=x")
 unfolding numbers_below digits instances most_messages most_events
 text-told_back =
-    ap (λ o. text_told_back (former_text o) (former_text (finite.get (map_after (set_a ∷ [])) (97 ∷ [])))) nothing
+    text_by one told_back
+    ∙ ap (λ o. text_told_back (former_text o) (former_text (finite.get (map_after (set_a ∷ [])) (97 ∷ [])))) nothing
     ∙ ap (λ o. text_told_back (former_text None) (former_text o)) text_x

@@ -1,9 +1,8 @@
--- The lines of an event. The trace before the event is w, and the trace after it is v.
-use Rattle.std.specs.Prelude.{true, false, ℕ, Bool, List, [], ◌++◌, codes, decimal, length, Option, Some, None, Result, Ok, Err, ◌==◌, ◌&&◌, if◌then◌else◌, slice_get}
+-- The facts about an event. The trace before the event is w, and the trace after it is v.
+use Rattle.std.specs.Prelude.{true, false, ℕ, Bool, List, [], ◌∷◌, ◌++◌, length, Option, Some, None, Result, Ok, Err, ◌==◌, ◌&&◌, if◌then◌else◌, slice_get}
 use Rattle.std.specs.List.{enumerate_from, flat_map}
-use Rattle.mencius_base.specs.Numbers.{ServerId, Inst, BallotNo, MessageNo}
+use Rattle.mencius_base.specs.Numbers.{ServerId, Inst, BallotNo, MessageNo, TicketNo}
 use Rattle.mencius_base.specs.declared.command.Command.{Command}
-use Rattle.mencius_base.specs.declared.command.CommandId.{CommandId}
 use Rattle.mencius_base.specs.declared.event.Event.{Event}
 use Rattle.mencius_base.specs.declared.event.Event.TheVariants.{Deliver, Execute}
 use Rattle.mencius_base.specs.declared.message.Message.{Message}
@@ -20,10 +19,10 @@ use Rattle.mencius_model.specs.Instance.{learned_value}
 use Rattle.mencius_model.specs.Server.{done, front}
 use Rattle.mencius_model.specs.Next.{learned_count, lines, next, server_of}
 use Rattle.mencius_model.specs.Replies.{Answered, Given, Pending, command_at, reply_of}
+use Rattle.mencius_trace.specs.declared.fact.Fact.{Fact}
+use Rattle.mencius_trace.specs.declared.fact.Fact.TheVariants.{Refused, Promises, Acceptances, Ignored, Learned as FactLearned, Sent as FactSent, Front, Executed, Reply}
 use Rattle.mencius_trace.specs.declared.reaction.Reaction.{Reaction}
 use Rattle.mencius_trace.specs.declared.reaction.Reaction.TheVariants.{Effective, Counted, Promised, Tries, Learned as LearnedBefore, Proposed}
-use Rattle.mencius_trace.specs.Facts.{event_line, executed_line, front_line, learned_line, refused_line, sent_line, tally_line, value_text}
-use Rattle.mencius_trace.specs.Words.{answer_line}
 
 -- ---- the reaction to a message
 
@@ -72,66 +71,55 @@ reaction m w p x = reaction_at (glance m w p (instance_of x)) x
 
 -- ---- the notice about a message
 
--- the line with the number of servers whose promises or acceptances p counted, if the message is a promise or an
+-- the fact with the number of servers whose promises or acceptances p counted, if the message is a promise or an
 -- acceptance
-abbrev pub count_line : Membership → ServerId → Glance → Message → List ℕ
-count_line m p g (Promise from to inst ballot vote) =
-    tally_line (codes "promises") p inst ballot g.promise_count (majority m)
-count_line m p g (Accepted from to inst ballot) =
-    tally_line (codes "acceptances") p inst ballot g.acceptance_count (majority m)
-count_line m p g _ = []
+abbrev pub counts : Membership → ServerId → Glance → Message → List Fact
+counts m p g (Promise from to inst ballot vote) = Promises p inst ballot g.promise_count (majority m) ∷ []
+counts m p g (Accepted from to inst ballot) = Acceptances p inst ballot g.acceptance_count (majority m) ∷ []
+counts m p g _ = []
 
--- the reason why a message had no effect
-abbrev pub reason_text : Trace → Reaction → List ℕ
-reason_text v (Promised ballot) = codes "promised " ++ decimal ballot
-reason_text v (Tries ballot) = codes "tries " ++ decimal ballot
-reason_text v (LearnedBefore value) = codes "learned " ++ value_text v value
-reason_text v Proposed = codes "proposed already"
-reason_text v _ = []
-
--- the line with the reason why a message had no effect
-abbrev pub ignored_line : Trace → Reaction → List ℕ
-ignored_line v reaction = codes "ignored " ++ reason_text v reaction ++ codes "\n"
-
--- the line with the count if the message counts, or the line with the reason if there is one and the message is
--- ignored. Otherwise it is empty
-abbrev pub notice : Membership → Trace → ServerId → Message → Bool → Reaction → List ℕ
+-- the count if the message counts, or the reason if there is one and the message is ignored. Otherwise it is empty
+abbrev pub notice : Membership → Trace → ServerId → Message → Bool → Reaction → List Fact
 notice m v p x is_ignored Effective = []
-notice m v p x is_ignored Counted = count_line m p (glance m v p (instance_of x)) x
-notice m v p x is_ignored reaction = if is_ignored then ignored_line v reaction else []
+notice m v p x is_ignored Counted = counts m p (glance m v p (instance_of x)) x
+notice m v p x is_ignored reaction = if is_ignored then Ignored p x reaction ∷ [] else []
 
 -- whether these lines send no message and teach no instance
 abbrev pub is_ignored : List Line → Bool
 is_ignored ls = length (messages_of ls) == 0 && learned_count ls == 0
 
 -- the notice about a message that p hears, if any
-abbrev pub notice_of : Membership → Trace → Trace → ServerId → Bool → Option Message → List ℕ
+abbrev pub notice_of : Membership → Trace → Trace → ServerId → Bool → Option Message → List Fact
 notice_of m w v p is_ignored None = []
 notice_of m w v p is_ignored (Some x) = notice m v p x is_ignored (reaction m w p x)
 
 -- the notice about the message that an event delivers, if any
-abbrev pub notices : Membership → Trace → Trace → Event → List ℕ
+abbrev pub notices : Membership → Trace → Trace → Event → List Fact
 notices m w v (Deliver k p) = notice_of m w v p (is_ignored (lines m w (Deliver k p))) (slice_get (sent_messages w) k)
 notices m w v _ = []
 
 -- ---- the effects of an event
 
--- the line about a value that was learned, and nothing for any other line of a trace
-abbrev pub learned_in : Trace → Line → List ℕ
-learned_in v (Learned p i value) = learned_line v p i value
-learned_in v _ = []
+-- the fact that a value was learned, and nothing for any other line of a trace
+abbrev pub learned_in : Line → List Fact
+learned_in (Learned p i value) = FactLearned p i value ∷ []
+learned_in _ = []
 
--- the lines about the instances that `ls` teaches, in the same order. An event teaches instances in rising order
-abbrev pub learned_lines : Trace → List Line → List ℕ
-learned_lines v ls = flat_map (learned_in v) ls
+-- the facts about the instances that `ls` teaches, in the same order. An event teaches instances in rising order
+abbrev pub learned_facts : List Line → List Fact
+learned_facts ls = flat_map learned_in ls
 
--- the lines about the messages that `ls` sends. The first message has number k
-abbrev pub sent_lines : Trace → MessageNo → List Line → List ℕ
-sent_lines v k ls = flat_map (sent_line v) (enumerate_from k (messages_of ls))
+-- the fact that a message was sent, with its number
+abbrev pub sent_fact : MessageNo × Message → List Fact
+sent_fact (k, x) = FactSent k x ∷ []
 
--- the line about p's front, if it moved
-abbrev pub front_lines : ServerId → Inst → Inst → List ℕ
-front_lines p old new = if old == new then [] else front_line p new
+-- the facts about the messages that `ls` sends. The first message has number k
+abbrev pub sent_facts : MessageNo → List Line → List Fact
+sent_facts k ls = flat_map sent_fact (enumerate_from k (messages_of ls))
+
+-- the fact about p's front, if it moved
+abbrev pub front_facts : ServerId → Inst → Inst → List Fact
+front_facts p old new = if old == new then [] else Front p new ∷ []
 
 -- whether a command is answered by `Pending`
 abbrev pub is_not_yet : Option Answered → Bool
@@ -143,50 +131,46 @@ abbrev pub is_pending : Trace → Option Command → Bool
 is_pending w None = false
 is_pending w (Some command) = is_not_yet (reply_of w command.id)
 
--- the line of a reply, if it is given
-abbrev pub given_line : CommandId → Option Answered → List ℕ
-given_line id (Some (Given former)) = answer_line id (Some (Given former))
-given_line id _ = []
+-- the fact that the command of ticket t has a reply, if the reply is given
+abbrev pub given_fact : ServerId → Inst → TicketNo → Option Answered → List Fact
+given_fact p i t (Some (Given former)) = Reply p i t ∷ []
+given_fact p i t _ = []
 
--- the line of the reply to a command, if there is a command and its reply is given
-abbrev pub given_to : Trace → Option Command → List ℕ
-given_to v None = []
-given_to v (Some command) = given_line command.id (reply_of v command.id)
+-- the fact that the command of ticket t has a reply, if there is a command and its reply is given
+abbrev pub given_to : Trace → ServerId → Inst → TicketNo → Option Command → List Fact
+given_to v p i t None = []
+given_to v p i t (Some command) = given_fact p i t (reply_of v command.id)
 
--- the line of the reply to the command of a ticket, if the command waited for it
-abbrev pub awaited_lines : Trace → Bool → Value → List ℕ
-awaited_lines v is_awaited Noop = []
-awaited_lines v is_awaited (Ticket t) = if is_awaited then given_to v (command_at v t) else []
+-- the fact about the reply to the command of a ticket, if the command waited for it
+abbrev pub awaited_facts : Trace → ServerId → Inst → Bool → Value → List Fact
+awaited_facts v p i is_awaited Noop = []
+awaited_facts v p i is_awaited (Ticket t) = if is_awaited then given_to v p i t (command_at v t) else []
 
--- the line of the reply to the command of a ticket, if the reply was not given before the event
-abbrev pub reply_lines : Trace → Trace → Value → List ℕ
-reply_lines w v Noop = []
-reply_lines w v (Ticket t) = awaited_lines v (is_pending w (command_at w t)) (Ticket t)
+-- the fact about the reply to the command of a ticket, if the reply was not given before the event
+abbrev pub reply_facts : Trace → Trace → ServerId → Inst → Value → List Fact
+reply_facts w v p i Noop = []
+reply_facts w v p i (Ticket t) = awaited_facts v p i (is_pending w (command_at w t)) (Ticket t)
 
--- the lines about the value that p executes at i, if any, and the reply to its command
-abbrev pub execution_lines_of : Trace → Trace → ServerId → Inst → Option Value → List ℕ
-execution_lines_of w v p i None = []
-execution_lines_of w v p i (Some value) = executed_line v p i value ++ reply_lines w v value
+-- the facts about the value that p executes at i, if any, and about the reply to its command
+abbrev pub execution_facts_of : Trace → Trace → ServerId → Inst → Option Value → List Fact
+execution_facts_of w v p i None = []
+execution_facts_of w v p i (Some value) = Executed p i value ∷ reply_facts w v p i value
 
--- the lines about the instance that an event executes, if any
-abbrev pub execution_lines : Trace → Trace → Event → List ℕ
-execution_lines w v (Execute p) = execution_lines_of w v p (done w p) (learned_value w p (done w p))
-execution_lines w v _ = []
+-- the facts about the instance that an event executes, if any
+abbrev pub execution_facts : Trace → Trace → Event → List Fact
+execution_facts w v (Execute p) = execution_facts_of w v p (done w p) (learned_value w p (done w p))
+execution_facts w v _ = []
 
--- the lines about all effects of an accepted event
-abbrev pub effect_text : Membership → Trace → Trace → Event → List ℕ
-effect_text m w v e =
+-- the facts about all effects of an accepted event
+abbrev pub effects : Membership → Trace → Trace → Event → List Fact
+effects m w v e =
     notices m w v e
-    ++ learned_lines v (lines m w e)
-    ++ sent_lines v (length (sent_messages w)) (lines m w e)
-    ++ front_lines (server_of e) (front m w (server_of e)) (front m v (server_of e))
-    ++ execution_lines w v e
+    ++ learned_facts (lines m w e)
+    ++ sent_facts (length (sent_messages w)) (lines m w e)
+    ++ front_facts (server_of e) (front m w (server_of e)) (front m v (server_of e))
+    ++ execution_facts w v e
 
--- the lines about the effects of an event, or about its refusal
-abbrev pub outcome_text : Membership → Trace → Event → Result Trace Refusal → List ℕ
-outcome_text m w e (Ok v) = effect_text m w v e
-outcome_text m w e (Err refusal) = refused_line refusal
-
--- the line of an event with its place, and the lines about its outcome
-abbrev pub event_lines : Membership → Trace → ℕ → Event → List ℕ
-event_lines m w place e = event_line place e ++ outcome_text m w e (next m w e)
+-- the facts about the effects of an event, or about its refusal
+abbrev pub outcome_facts : Membership → Trace → Event → Result Trace Refusal → List Fact
+outcome_facts m w e (Ok v) = effects m w v e
+outcome_facts m w e (Err refusal) = Refused refusal ∷ []

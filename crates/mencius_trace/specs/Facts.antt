@@ -1,6 +1,7 @@
 -- The lines of a printed trace. Each line states one fact. The trace w has the commands of the values in these lines.
-use Rattle.std.specs.Prelude.{ℕ, List, ◌∷◌, ◌++◌, codes, decimal, Option, Some, None}
+use Rattle.std.specs.Prelude.{ℕ, List, [], ◌∷◌, ◌++◌, codes, decimal, Option, Some, None}
 use Rattle.mencius_base.specs.Numbers.{ServerId, Inst, BallotNo, MessageNo}
+use Rattle.mencius_base.specs.declared.command.Command.{Command}
 use Rattle.mencius_base.specs.declared.event.Event.{Event}
 use Rattle.mencius_base.specs.declared.message.Message.{Message}
 use Rattle.mencius_base.specs.declared.message.Message.TheVariants.{Suggest, Skip, Accepted, Prepare, Promise, Propose, Learn}
@@ -9,9 +10,14 @@ use Rattle.mencius_base.specs.declared.message.Value.TheVariants.{Noop, Ticket}
 use Rattle.mencius_base.specs.declared.message.Vote.{Vote}
 use Rattle.mencius_base.specs.declared.refusal.Refusal.{Refusal}
 use Rattle.mencius_base.specs.Refusal.{refusal_name}
+use Rattle.mencius_model.specs.Replies.{command_at, reply_of}
 use Rattle.mencius_model.specs.Trace.{Trace}
 use Rattle.mencius_format.specs.Texts.{event_text}
-use Rattle.mencius_trace.specs.Words.{ticket_text}
+use Rattle.mencius_trace.specs.declared.fact.Fact.{Fact}
+use Rattle.mencius_trace.specs.declared.fact.Fact.TheVariants.{Refused, Promises, Acceptances, Ignored, Learned as FactLearned, Sent, Front, Executed, Reply, Unheard}
+use Rattle.mencius_trace.specs.declared.reaction.Reaction.{Reaction}
+use Rattle.mencius_trace.specs.declared.reaction.Reaction.TheVariants.{Promised, Tries, Learned as LearnedBefore, Proposed}
+use Rattle.mencius_trace.specs.Words.{answer_line, ticket_text}
 
 -- ---- parts of lines
 
@@ -114,3 +120,37 @@ abbrev pub tally_line : List ℕ → ServerId → Inst → BallotNo → ℕ → 
 tally_line kind p i b count majority =
     kind ++ 32 ∷ decimal p ++ at_ballot i b ++ codes " count " ++ decimal count ++ codes " of " ++ decimal majority
     ++ codes "\n"
+
+-- the reason why a message had no effect
+abbrev pub reason_text : Trace → Reaction → List ℕ
+reason_text w (Promised ballot) = codes "promised " ++ decimal ballot
+reason_text w (Tries ballot) = codes "tries " ++ decimal ballot
+reason_text w (LearnedBefore value) = codes "learned " ++ value_text w value
+reason_text w Proposed = codes "proposed already"
+reason_text w _ = []
+
+-- the line with the reason why a message had no effect
+abbrev pub ignored_line : Trace → Reaction → List ℕ
+ignored_line w reaction = codes "ignored " ++ reason_text w reaction ++ codes "\n"
+
+-- the line of the reply to a command, if there is a command
+abbrev pub reply_line : Trace → Option Command → List ℕ
+reply_line w None = []
+reply_line w (Some command) = answer_line command.id (reply_of w command.id)
+
+-- the line of a message and a server that neither heard nor lost it
+abbrev pub unheard_line : MessageNo → Message → ServerId → List ℕ
+unheard_line k x p = codes "unheard " ++ decimal k ++ 32 ∷ kind_text x ++ codes " to " ++ decimal p ++ codes "\n"
+
+-- the line of a fact
+abbrev pub fact_line : Trace → Fact → List ℕ
+fact_line w (Refused refusal) = refused_line refusal
+fact_line w (Promises p i b count majority) = tally_line (codes "promises") p i b count majority
+fact_line w (Acceptances p i b count majority) = tally_line (codes "acceptances") p i b count majority
+fact_line w (Ignored p x reaction) = ignored_line w reaction
+fact_line w (FactLearned p i value) = learned_line w p i value
+fact_line w (Sent k x) = sent_line w (k, x)
+fact_line w (Front p front) = front_line p front
+fact_line w (Executed p i value) = executed_line w p i value
+fact_line w (Reply p i t) = reply_line w (command_at w t)
+fact_line w (Unheard k x p) = unheard_line k x p

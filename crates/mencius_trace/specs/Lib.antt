@@ -3,5 +3,9 @@ pub mod Facts
 pub mod Effects
 pub mod Before
 pub mod After
+pub mod Json
+pub mod Choice
+pub mod Suggestions
+pub mod EventLines
 pub mod LastLines
 pub mod Settled

@@ -1,6 +1,6 @@
 //! The notes taken before an event, so that its effects can be shown after it.
 
-ghost use Rattle.std.specs.Prelude.{◌≡◌, ◌<◌, ◌++◌, ◌&&◌, [], IfOk, OnOk, if◌then◌else◌, is_none, map, string_bytes};
+ghost use Rattle.std.specs.Prelude.{◌≡◌, ◌<◌, ◌∷◌, ◌++◌, ◌&&◌, [], IfOk, OnOk, if◌then◌else◌, is_none, map};
 ghost use Rattle.std.specs.List.{filter};
 ghost use Rattle.mencius_base.specs.Limits.{instance_count};
 ghost use Rattle.mencius_base.specs.Members.{IsMember, instances};
@@ -10,12 +10,12 @@ ghost use Rattle.mencius_model.specs.Instance.{learned_value};
 ghost use Rattle.mencius_model.specs.Rules.{is_skipped_by};
 ghost use Rattle.mencius_model.specs.Trace.{Learned};
 ghost use Rattle.mencius_model.specs.Next.{server_of};
-ghost use Rattle.mencius_trace.specs.Facts.{learned_line};
 ghost use Rattle.mencius_cluster.specs.State.{trace_of};
-ghost use Rattle.mencius_trace.specs.Effects.{if_tried, instance_of, learned_lines, learned_or, proposed_or, reaction, reaction_at};
-ghost use Rattle.mencius_trace.specs.Before.{IsBefore, IsReaction, IsSkippedText, execution_in, heard_in, is_awaited, skipped_text};
+ghost use Rattle.mencius_trace.specs.declared.fact.Fact.TheVariants.{Learned as FactLearned};
+ghost use Rattle.mencius_trace.specs.Effects.{if_tried, instance_of, learned_facts, learned_or, proposed_or, reaction, reaction_at};
+ghost use Rattle.mencius_trace.specs.Before.{AreSkipped, IsBefore, IsReaction, execution_in, heard_in, is_awaited};
 
-use crate::facts::push_learned;
+use crate::fact::{Fact, push_fact};
 use crate::reaction::Reaction;
 use mencius_base::{Ballot, Event, INSTANCES, Message, Value, Vote};
 use mencius_cluster::{Answered, Cluster, Glance};
@@ -32,8 +32,8 @@ pub(crate) struct Before {
     pub(crate) heard: Option<Message>,
     /// The reaction of the server to the message that the event delivers.
     pub(crate) reaction: Reaction,
-    /// The lines of the instances that a Skip makes the server learn.
-    pub(crate) skipped_text: String,
+    /// The facts about the instances that a Skip makes the server learn.
+    pub(crate) skipped: Vec<Fact>,
     /// The instance that the event executes, with its value.
     pub(crate) execution: Option<(u32, Value)>,
     /// Whether the command that the event executes has no reply yet.
@@ -50,19 +50,19 @@ pub(crate) fn note(alloc: Global, cluster: &Cluster, event: &Event) -> Result<Be
     let execution = execution_in(cluster, event);
     let is_awaited = is_awaited(cluster, &execution);
     let reaction = reaction_in(cluster, server, &heard);
-    let skipped_text = skipped_text_in(alloc, cluster, server, &heard)?;
+    let skipped = skipped_in(alloc, cluster, server, &heard)?;
     Ok(Before {
         server,
         front: cluster.front(server),
         heard,
         reaction,
-        skipped_text,
+        skipped,
         execution,
         is_awaited,
     })
 }
 
-fn server_of(event: &Event) -> u8
+pub(crate) fn server_of(event: &Event) -> u8
     ensures { result ≡ server_of event.now }
 {
     match event {
@@ -200,25 +200,25 @@ fn if_tried(ballot: Ballot, tried: Ballot, reaction: Reaction) -> Reaction
     }
 }
 
-/// Returns the lines of the instances that a Skip makes a server learn.
-fn skipped_text_in(
+/// Returns the facts about the instances that a Skip makes a server learn.
+fn skipped_in(
     alloc: Global,
     cluster: &Cluster,
     server: u8,
     heard: &Option<Message>,
-) -> Result<String, AllocError>
-    ensures { IfOk result (λ s.
-        IsSkippedText cluster.now.members (trace_of cluster.now) server heard.now (string_bytes s)) }
+) -> Result<Vec<Fact>, AllocError>
+    ensures { IfOk result (λ facts.
+        AreSkipped cluster.now.members (trace_of cluster.now) server heard.now facts.items) }
 {
-    let mut text = String::new(alloc);
+    let mut facts = Vec::new(alloc);
     if let Some(Message::Skip { from, first, stop }) = heard {
-        push_skipped(&mut text, cluster, server, *from, *first, *stop)?;
+        push_skipped(&mut facts, cluster, server, *from, *first, *stop)?;
     }
-    Ok(text)
+    Ok(facts)
 }
 
 fn push_skipped(
-    text: &mut String,
+    facts: &mut Vec<Fact>,
     cluster: &Cluster,
     server: u8,
     from: u8,
@@ -226,8 +226,7 @@ fn push_skipped(
     stop: u32,
 ) -> Result<(), AllocError>
     ensures { OnOk result (IsMember cluster.now.members server → first < instance_count
-        → string_bytes text.new
-        ≡ string_bytes text.old ++ learned_lines (trace_of cluster.now)
+        → facts.new.items ≡ facts.old.items ++ learned_facts
         (map (λ i. Learned server i Noop)
         (filter (λ i. is_skipped_by cluster.now.members i (Skip from first stop)
         && is_none (learned_value (trace_of cluster.now) server i)) instances))) }
@@ -235,26 +234,34 @@ fn push_skipped(
     let members = cluster.members();
     for inst in first..stop.min(INSTANCES) {
         let is_own = members.owner(inst) == from;
-        push_where_unlearned(text, cluster, server, inst, is_own)?;
+        push_where_unlearned(facts, cluster, server, inst, is_own)?;
     }
     Ok(())
 }
 
-// Adds the line of an instance, if it is wanted and the server has not learned the instance.
+// Adds the fact about an instance, if it is wanted and the server has not learned the instance.
 fn push_where_unlearned(
-    text: &mut String,
+    facts: &mut Vec<Fact>,
     cluster: &Cluster,
     server: u8,
     inst: u32,
     is_wanted: bool,
 ) -> Result<(), AllocError>
-    ensures { OnOk result (IsMember cluster.now.members server → string_bytes text.new
-        ≡ string_bytes text.old
+    ensures { OnOk result (IsMember cluster.now.members server → facts.new.items
+        ≡ facts.old.items
         ++ (if is_wanted && is_none (learned_value (trace_of cluster.now) server inst)
-        then learned_line (trace_of cluster.now) server inst Noop else [])) }
+        then FactLearned server inst Noop ∷ [] else [])) }
 {
     if is_wanted && cluster.learned(server, inst).is_none() {
-        return push_learned(text, cluster, server, inst, Value::Noop);
+        let value = Value::Noop;
+        return push_fact(
+            facts,
+            Fact::Learned {
+                server,
+                inst,
+                value,
+            },
+        );
     }
     Ok(())
 }

@@ -2,12 +2,15 @@
 
 ghost use Rattle.std.specs.Prelude.{◌≡◌, ◌++◌, string_bytes, OnOk};
 ghost use Rattle.mencius_cluster.specs.State.{trace_of};
-ghost use Rattle.mencius_trace.specs.Facts.{at_ballot, content_text, event_line, executed_line, front_line, kind_text, learned_line, refused_line, sent_line, tally_line, value_text, vote_text, way_text, with_value};
+ghost use Rattle.mencius_model.specs.Replies.{command_at};
+ghost use Rattle.mencius_trace.specs.Facts.{at_ballot, content_text, event_line, executed_line, fact_line, front_line, ignored_line, kind_text, learned_line, reason_text, refused_line, reply_line, sent_line, tally_line, unheard_line, value_text, vote_text, way_text, with_value};
 
-use crate::words::push_ticket;
+use crate::fact::Fact;
+use crate::reaction::Reaction;
+use crate::words::{push_answer, push_ticket};
 use mencius_base::{Ballot, Event, Message, Refusal, Value, Vote};
 use mencius_cluster::Cluster;
-use mencius_format::push_event;
+use mencius_format::{push_event, push_id};
 use std::alloc::AllocError;
 
 /// Adds a value to a text. A command is shown by its identity.
@@ -120,8 +123,8 @@ fn push_content(text: &mut String, cluster: &Cluster, message: Message) -> Resul
     }
 }
 
-/// Adds the line of a message that was sent, with its number.
-pub(crate) fn push_sent(
+// Adds the line of a message that was sent, with its number.
+fn push_sent(
     text: &mut String,
     cluster: &Cluster,
     number: u32,
@@ -151,14 +154,14 @@ pub(crate) fn push_event_line(
     text.push('\n')
 }
 
-pub(crate) fn push_refused(text: &mut String, refusal: Refusal) -> Result<(), AllocError>
+fn push_refused(text: &mut String, refusal: Refusal) -> Result<(), AllocError>
     ensures { OnOk result (string_bytes text.new ≡ string_bytes text.old ++ refused_line refusal) }
 {
     let name = refusal.name();
     writeln!(text, "refused {name}")
 }
 
-pub(crate) fn push_learned(
+fn push_learned(
     text: &mut String,
     cluster: &Cluster,
     server: u8,
@@ -173,7 +176,7 @@ pub(crate) fn push_learned(
     text.push('\n')
 }
 
-pub(crate) fn push_executed(
+fn push_executed(
     text: &mut String,
     cluster: &Cluster,
     server: u8,
@@ -188,16 +191,16 @@ pub(crate) fn push_executed(
     text.push('\n')
 }
 
-pub(crate) fn push_front(text: &mut String, server: u8, front: u32) -> Result<(), AllocError>
+fn push_front(text: &mut String, server: u8, front: u32) -> Result<(), AllocError>
     ensures { OnOk result (string_bytes text.new
         ≡ string_bytes text.old ++ front_line server front) }
 {
     writeln!(text, "front {server} {front}")
 }
 
-/// Adds the line with the number of servers whose promises or acceptances were counted, and the number of servers that
-/// is a majority.
-pub(crate) fn push_tally(
+// Adds the line with the number of servers whose promises or acceptances were counted, and the number of servers that
+// is a majority.
+fn push_tally(
     text: &mut String,
     kind: &str,
     server: u8,
@@ -212,4 +215,110 @@ pub(crate) fn push_tally(
     write!(text, "{kind} {server}")?;
     push_at_ballot(text, inst, ballot)?;
     writeln!(text, " count {count} of {majority}")
+}
+
+fn push_reason(text: &mut String, cluster: &Cluster, reaction: Reaction) -> Result<(), AllocError>
+    ensures { OnOk result (string_bytes text.new
+        ≡ string_bytes text.old ++ reason_text (trace_of cluster.now) reaction) }
+{
+    match reaction {
+        Reaction::Promised(ballot) => {
+            let ballot = ballot.number();
+            write!(text, "promised {ballot}")
+        }
+        Reaction::Tries(ballot) => {
+            let ballot = ballot.number();
+            write!(text, "tries {ballot}")
+        }
+        Reaction::Learned(value) => {
+            text.push_str("learned ")?;
+            push_value(text, cluster, value)
+        }
+        Reaction::Proposed => text.push_str("proposed already"),
+        Reaction::Effective | Reaction::Counted => Ok(()),
+    }
+}
+
+fn push_ignored(text: &mut String, cluster: &Cluster, reaction: Reaction) -> Result<(), AllocError>
+    ensures { OnOk result (string_bytes text.new
+        ≡ string_bytes text.old ++ ignored_line (trace_of cluster.now) reaction) }
+{
+    text.push_str("ignored ")?;
+    push_reason(text, cluster, reaction)?;
+    text.push('\n')
+}
+
+fn push_reply(text: &mut String, cluster: &Cluster, ticket: u32) -> Result<(), AllocError>
+    ensures { OnOk result (string_bytes text.new ≡ string_bytes text.old
+        ++ reply_line (trace_of cluster.now) (command_at (trace_of cluster.now) ticket)) }
+{
+    let Some(submission) = cluster.submission(ticket) else {
+        return Ok(());
+    };
+    text.push_str("reply ")?;
+    push_id(text, submission.command.id())?;
+    text.push(' ')?;
+    push_answer(text, &submission.reply)?;
+    text.push('\n')
+}
+
+fn push_unheard(
+    text: &mut String,
+    number: u32,
+    message: &Message,
+    server: u8,
+) -> Result<(), AllocError>
+    ensures { OnOk result (string_bytes text.new
+        ≡ string_bytes text.old ++ unheard_line number message.now server) }
+{
+    let kind = kind_of(message);
+    writeln!(text, "unheard {number} {kind} to {server}")
+}
+
+/// Adds the line of a fact.
+pub(crate) fn push_fact_line(
+    text: &mut String,
+    cluster: &Cluster,
+    fact: Fact,
+) -> Result<(), AllocError>
+    ensures { OnOk result (string_bytes text.new
+        ≡ string_bytes text.old ++ fact_line (trace_of cluster.now) fact) }
+{
+    let _named: Option<Vote> = None; // proof: a message can hold a vote
+    match fact {
+        Fact::Refused(refusal) => push_refused(text, refusal),
+        Fact::Promises {
+            server,
+            inst,
+            ballot,
+            count,
+            majority,
+        } => push_tally(text, "promises", server, inst, ballot, count, majority),
+        Fact::Acceptances {
+            server,
+            inst,
+            ballot,
+            count,
+            majority,
+        } => push_tally(text, "acceptances", server, inst, ballot, count, majority),
+        Fact::Ignored { reaction, .. } => push_ignored(text, cluster, reaction),
+        Fact::Learned {
+            server,
+            inst,
+            value,
+        } => push_learned(text, cluster, server, inst, value),
+        Fact::Sent { number, message } => push_sent(text, cluster, number, message),
+        Fact::Front { server, front } => push_front(text, server, front),
+        Fact::Executed {
+            server,
+            inst,
+            value,
+        } => push_executed(text, cluster, server, inst, value),
+        Fact::Reply { ticket, .. } => push_reply(text, cluster, ticket),
+        Fact::Unheard {
+            number,
+            message,
+            server,
+        } => push_unheard(text, number, &message, server),
+    }
 }

@@ -5,36 +5,89 @@ ghost use Rattle.mencius_base.specs.Limits.{instance_count};
 ghost use Rattle.mencius_base.specs.Members.{IsMember};
 ghost use Rattle.mencius_cluster.specs.State.{trace_of};
 ghost use Rattle.mencius_model.specs.Server.{waiting_at, waiting_tickets};
-ghost use Rattle.mencius_trace.specs.LastLines.{closing_text, progress_text, server_line, server_lines, ticket_in};
+ghost use Rattle.mencius_trace.specs.LastLines.{chosen_server, closing_text, first_line, progress_text, server_line, server_lines, servers_line, ticket_in};
 ghost use Rattle.mencius_trace.specs.Words.{tickets_text};
 
+use crate::json::{push_server_json, push_servers_json};
 use crate::unheard::push_unheard;
+use crate::view::{View, concerns_server, is_filtered};
 use crate::words::push_ticket;
-use mencius_base::{INSTANCES, NoMemory};
+use mencius_base::{INSTANCES, Members, NoMemory};
 use mencius_cluster::Cluster;
 use std::alloc::{AllocError, Global};
 
-/// Adds the lines after the last event. There is a line for each server. There is also a line for each message and each
+/// Adds the chosen lines after the last event. There is a line for each server. There is also a line for each message and each
 /// server that it goes to, if the server neither heard nor lost it.
 ///
 /// The running time, and the memory besides the text, grow with the length of the journal.
-pub fn push_closing(alloc: Global, text: &mut String, cluster: &Cluster) -> Result<(), NoMemory>
+pub fn push_closing(
+    alloc: Global,
+    text: &mut String,
+    view: &View,
+    suggested: &[u32],
+    cluster: &Cluster,
+) -> Result<(), NoMemory>
     ensures { OnOk result (string_bytes text.new ≡ string_bytes text.old
-        ++ closing_text cluster.now.members (trace_of cluster.now)) }
+        ++ closing_text view.now suggested.now cluster.now.members (trace_of cluster.now)) }
 {
-    push_servers(text, cluster)?;
-    push_unheard(alloc, text, cluster)
+    push_servers(text, view, suggested, cluster)?;
+    push_unheard(alloc, text, view, suggested, cluster)
 }
 
-// Adds a line for each server, with its front, its progress and the tickets that wait at it.
-fn push_servers(text: &mut String, cluster: &Cluster) -> Result<(), AllocError>
+/// Adds the first line, which has the number of servers, unless only some lines are chosen.
+pub fn push_opening(text: &mut String, view: &View, members: Members) -> Result<(), AllocError>
+    ensures { OnOk result (string_bytes text.new ≡ string_bytes text.old ++ first_line view.now members) }
+{
+    let servers = members.count();
+    if is_filtered(view) {
+        return Ok(());
+    }
+    if view.is_json {
+        return push_servers_json(text, servers);
+    }
+    push_servers_line(text, servers)
+}
+
+fn push_servers_line(text: &mut String, servers: u8) -> Result<(), AllocError>
+    ensures { OnOk result (string_bytes text.new ≡ string_bytes text.old ++ servers_line servers) }
+{
+    writeln!(text, "servers {servers}")
+}
+
+// Adds the lines of each server, with its front, its progress and the tickets that wait at it.
+fn push_servers(
+    text: &mut String,
+    view: &View,
+    suggested: &[u32],
+    cluster: &Cluster,
+) -> Result<(), AllocError>
     ensures { OnOk result (string_bytes text.new ≡ string_bytes text.old
-        ++ server_lines cluster.now.members (trace_of cluster.now)) }
+        ++ server_lines view.now suggested.now cluster.now.members (trace_of cluster.now)) }
 {
     for server in 0..cluster.servers() {
-        push_server(text, cluster, server)?;
+        push_chosen_server(text, view, suggested, cluster, server)?;
     }
     Ok(())
+}
+
+fn push_chosen_server(
+    text: &mut String,
+    view: &View,
+    suggested: &[u32],
+    cluster: &Cluster,
+    server: u8,
+) -> Result<(), AllocError>
+    requires { IsMember cluster.now.members server }
+    ensures { OnOk result (string_bytes text.new ≡ string_bytes text.old
+        ++ chosen_server view.now suggested.now cluster.now.members (trace_of cluster.now) server) }
+{
+    if !concerns_server(view, suggested, cluster, server) {
+        return Ok(());
+    }
+    if view.is_json {
+        return push_server_json(text, cluster, server);
+    }
+    push_server(text, cluster, server)
 }
 
 fn push_server(text: &mut String, cluster: &Cluster, server: u8) -> Result<(), AllocError>

@@ -7,6 +7,7 @@ use mencius_app::{
     AppFault, Failure, Open, Sink, Source, Std, check, draw, judge, replay, report, run, trace,
 };
 use mencius_draw::{Options, Scheme, picture};
+use mencius_trace::View;
 use std::alloc::Global;
 use std::io;
 use std::io::{ErrorKind, Read, Write};
@@ -15,6 +16,14 @@ use std::process::Abort;
 use std::sync::Wait;
 use std::test::Fail;
 use std::thread::Threads;
+
+// The view of the text of a whole trace.
+const WHOLE: View = View {
+    is_json: false,
+    instance: None,
+    command: None,
+    server: None,
+};
 
 // A reader that first fails with Interrupted `interruptions` times, and then gives the bytes in pieces. It may also
 // fail at one of its calls.
@@ -178,7 +187,7 @@ fn make<R: Abort + Threads + Wait + Sync>(
 ) -> Result<(), AppFault> {
     let made = match call {
         Call::Replay => return replay(alloc, source, sink),
-        Call::Trace => trace(alloc, source, sink),
+        Call::Trace => trace(alloc, source, sink, &WHOLE),
         Call::Check => check(alloc, source, sink),
         Call::Judge => judged_in(rt, judge(alloc, source, sink, false, false)),
         Call::Draw => draw(alloc, source, sink, &WHOLE),

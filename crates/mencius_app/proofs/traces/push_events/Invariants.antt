@@ -1,8 +1,8 @@
-use Rattle.mencius_app.proofs.Words.{string_bytes, events_text}
+use Rattle.mencius_app.proofs.Words.{string_bytes, [], events_text}
 use Rattle.mencius_app.proofs.texts.EventTexts.{HasLines}
 use Rattle.mencius_app.proofs.traces.push_events.Given as goal
 
 abbrev pub invariant-loop-event : goal.invariant-loop-event
 invariant-loop-event l =
-    HasLines events_text l.initial.cluster (string_bytes l.initial.text) l.fn.events l.event-iterator l.cluster
+    HasLines (events_text l.view []) l.initial.cluster (string_bytes l.initial.text) l.fn.events l.event-iterator l.cluster
     (string_bytes l.text) l.place

@@ -1,7 +1,8 @@
 use Rattle.std.proofs.Common.{◌≡◌, ◌∙◌, ap₂}
 use Rattle.std.proofs.lemmas.Result.{IfOk-weaker}
 use Rattle.clap.specs.Words.{App, app_of, with_subcommand}
-use Rattle.mencius_command_line.specs.CommandLine.{replay_task, trace_task, without_tasks}
+use Rattle.mencius_command_line.specs.CommandLine.{replay_task, without_tasks}
+use Rattle.mencius_command_line.specs.TraceOptions.{trace_task}
 use Rattle.mencius_command_line.specs.DrawOptions.{draw_task}
 use Rattle.mencius_command_line.proofs.line.with_replays.Goals as goal
 
@@ -14,7 +15,8 @@ returns c =
     c.in_ok-subcommand.ensures.shape c.in_ok-replay_command.ensures.local
     ∙ ap₂ top_of c.without_tasks.ensures c.in_ok-replay_command.ensures.replay in
     let second : app_of c.in_ok-subcommand-2.field-0 ≡ top_of (top_of without_tasks replay_task) trace_task =
-    c.in_ok-subcommand-2.ensures.shape c.trace_command.ensures.local ∙ ap₂ top_of first c.trace_command.ensures.trace in
+    c.in_ok-subcommand-2.ensures.shape c.in_ok-trace_command.ensures.local
+    ∙ ap₂ top_of first c.in_ok-trace_command.ensures.trace in
     let third : app_of c.in_ok-subcommand-3.field-0 ≡ top_of (top_of (top_of without_tasks replay_task) trace_task) draw_task =
     c.in_ok-subcommand-3.ensures.shape c.in_ok-draw_command.ensures.local
     ∙ ap₂ top_of second c.in_ok-draw_command.ensures.draw in

@@ -1,8 +1,8 @@
-use Rattle.std.proofs.Common.{ap, ◌∙◌, subst, string_bytes}
+use Rattle.std.proofs.Common.{ap, ◌∙◌, subst}
 use Rattle.mencius_cluster.specs.Answers.{if_member}
 use Rattle.mencius_cluster.specs.State.{trace_of}
 use Rattle.mencius_model.specs.Server.{front}
-use Rattle.mencius_trace.specs.Before.{IsReaction, IsSkippedText, heard_in}
+use Rattle.mencius_trace.specs.Before.{AreSkipped, IsReaction, heard_in}
 use Rattle.mencius_trace.proofs.before.note.Goals as goal
 
 pub returns : goal.returns
@@ -19,11 +19,10 @@ returns c =
           (subst (λ o. IsReaction m w c.server_of-server.result o c.reaction_in-reaction.result)
           c.heard_in-heard.ensures
           c.reaction_in-reaction.ensures);
-      skipped_text = subst (λ p. IsSkippedText m w p (heard_in w c.args.event.now)
-          (string_bytes c.in_ok-skipped_text.skipped_text))
+      skipped = subst (λ p. AreSkipped m w p (heard_in w c.args.event.now) c.in_ok-skipped.skipped.items)
           c.server_of-server.ensures
-          (subst (λ o. IsSkippedText m w c.server_of-server.result o (string_bytes c.in_ok-skipped_text.skipped_text))
-          c.heard_in-heard.ensures c.in_ok-skipped_text.ensures);
+          (subst (λ o. AreSkipped m w c.server_of-server.result o c.in_ok-skipped.skipped.items)
+          c.heard_in-heard.ensures c.in_ok-skipped.ensures);
       execution = c.execution_in-execution.ensures;
       awaited = c.is_awaited-is_awaited.ensures;
     }

@@ -1,4 +1,3 @@
-use Rattle.std.proofs.Common.{string_bytes}
 use Rattle.mencius_cluster.specs.State.{trace_of}
 use Rattle.mencius_trace.proofs.SkippedLines.{IsSkippedTo}
 use Rattle.mencius_trace.proofs.before.push_skipped.Given as goal
@@ -6,4 +5,4 @@ use Rattle.mencius_trace.proofs.before.push_skipped.Given as goal
 abbrev pub invariant-loop-inst : goal.invariant-loop-inst
 invariant-loop-inst l =
     IsSkippedTo l.cluster.members (trace_of l.cluster) l.server l.from l.first l.stop l.inst
-    (string_bytes l.initial.text) (string_bytes l.text)
+    l.initial.facts.items l.facts.items

@@ -11,13 +11,13 @@ use Rattle.mencius_trace.proofs.unheard.push_all.Goals as goal
 pub loop-number-preserved : goal.loop-number-preserved
 loop-number-preserved c =
     let w = trace_of c.args.cluster.now in
-    texts_further (λ (k : ℕ). of_message (unheard_lines c.args.cluster.now.members w) k (slice_get (sent_messages w) k))
+    texts_further (λ (k : ℕ). of_message (unheard_lines c.args.view.now c.args.suggested.now c.args.cluster.now.members w) k (slice_get (sent_messages w) k))
     c.loop-number.number _ _ _ c.loop-number.invariant c.in_ok-push_unheard_lines.ensures
 
 pub returns : goal.returns
 returns c =
     let w = trace_of c.args.cluster.now in
-    let lines = unheard_lines c.args.cluster.now.members w in
+    let lines = unheard_lines c.args.view.now c.args.suggested.now c.args.cluster.now.members w in
     let all : c.loop-number.number ≡ length (sent_messages w) =
     omega (arith, c.loop-number-test.false, c.loop-number.auto.number-end, c.messages-number-end.ensures) in
     c.loop-number.invariant

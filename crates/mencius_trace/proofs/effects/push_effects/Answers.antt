@@ -5,18 +5,18 @@ use Rattle.mencius_base.specs.Members.{IsMember}
 use Rattle.mencius_cluster.specs.State.{trace_of}
 use Rattle.mencius_trace.specs.After.{notice_after}
 use Rattle.mencius_trace.specs.Effects.{instance_of}
-use Rattle.mencius_trace.proofs.EffectTexts.{effect_text_is}
-use Rattle.mencius_trace.proofs.event_lines.push_effect.Goals as goal
+use Rattle.mencius_trace.proofs.EffectLists.{effects_are}
+use Rattle.mencius_trace.proofs.effects.push_effects.Goals as goal
 
 pub returns : goal.returns
 returns c = λ old e noted step.
     let front = c.args.before.now in
     let d = c.args.cluster.now in
     let few = subst (λ n. n ≤ most_servers) c.servers-within_limit.ensures.count c.servers-within_limit.ensures.few in
-    effect_text_is old d e front c.args.effect noted step few _ (string_bytes c.push_notice.new.text) _ _ _ _
+    effects_are old d e front c.args.effect noted step few _ (c.push_notice.new.facts.items) _ _ _ _
     (subst (λ s. IsMember d.members front.server → IfSome front.heard (λ x. instance_of x < instance_count)
-    → string_bytes c.push_notice.new.text ≡ string_bytes c.args.text.now
+    → c.push_notice.new.facts.items ≡ c.args.facts.now.items
     ++ notice_after d.members (trace_of d) front.server s front.reaction front.heard) c.is_ignored.ensures
     c.in_ok-push_notice.ensures)
-    c.in_ok-push_learned_lines.ensures c.in_ok-push_sent_lines.ensures c.in_ok-push_front_line.ensures
+    c.in_ok-push_learned.ensures c.in_ok-push_sent.ensures c.in_ok-push_front.ensures
     c.in_ok-push_execution.ensures

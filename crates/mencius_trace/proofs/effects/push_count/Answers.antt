@@ -1,7 +1,7 @@
 use Rattle.std.proofs.Common.{sym, ◌∙◌}
 use Rattle.mencius_cluster.specs.State.{trace_of}
 use Rattle.mencius_trace.proofs.MemberAnswers.{counted_by}
-use Rattle.mencius_trace.proofs.event_lines.push_count.Goals as goal
+use Rattle.mencius_trace.proofs.effects.push_count.Goals as goal
 
 pub returns-in-Some : goal.returns-in-Some
 returns-in-Some c =
