@@ -1,0 +1,119 @@
+-- The first line with which a log has no linearization is between two counts of lines.
+use Rattle.std.proofs.Common.{◌≡◌, ◌<◌, ◌+◌, ℕ, zero, suc, List, [], ◌∷◌, ◌++◌, Some, slice_get, length, take, drop, reverse, arith, refl, sym, subst, ap, ◌∙◌, append_assoc}
+use Rattle.std.proofs.lemmas.List.{reverse-append, take-append-drop, take_all}
+use Rattle.mencius_base.specs.declared.command.CommandId.{CommandId}
+use Rattle.mencius_log.specs.declared.observation.Observation.{Observation}
+use Rattle.mencius_judge.specs.declared.violation.Violation.{Violation}
+use Rattle.mencius_judge.specs.Log.{Log}
+use Rattle.mencius_clients.specs.declared.explanation.Cause.{Cause}
+use Rattle.mencius_clients.specs.declared.explanation.Cause.TheVariants.{Waiting, Configurations, Unconfirmed}
+use Rattle.mencius_clients.specs.declared.explanation.Explanation.{Explanation}
+use Rattle.mencius_clients.specs.declared.explanation.Explanation.TheVariants.{Broken, Undecided}
+use Rattle.mencius_clients.specs.Explained.{IsBroken, IsCause, IsExplanation, IsLinearizable, IsSplitAt}
+use Rattle.mencius_clients.specs.FirstLines.{IsBetween, IsFirstLine, IsLinearizableTo}
+use Rattle.mencius_clients.specs.declared.first_lines.FirstLine.TheVariants.{Found}
+
+none_splits : (front back : List CommandId) (id : CommandId) → [] ≡ front ++ id ∷ back → ⊥
+none_splits [] back id e = cc
+none_splits (x ∷ front) back id e = cc
+
+pub empty_linearizable : IsLinearizable []
+empty_linearizable = (
+  [],
+  record {
+    once = λ n m id e. absurd (cc);
+    submitted = λ id has. absurd (cc);
+    complete = λ id has. absurd (cc);
+    real_time = λ front back id x e. absurd (none_splits front back id e);
+    answers = λ front back id c x e. absurd (none_splits front back id e);
+  },
+)
+
+pub begins_between : (log : List Observation) → (IsLinearizable (reverse log) → ⊥) → IsBetween log 0 (length log)
+begins_between log none = record {
+  rising = some_line log none;
+  within = omega arith;
+  has = empty_linearizable;
+  lacks = λ h. none (subst (λ l. IsLinearizable (reverse l)) (take_all (length log) log (omega arith)) h);
+}
+  where
+    some_line : (l : List Observation) → (IsLinearizable (reverse l) → ⊥) → 0 < length l
+    some_line [] h = absurd (h empty_linearizable)
+    some_line (o ∷ l) h = omega arith
+
+pub low_raised : (log : List Observation) (low high count : ℕ) → IsBetween log low high → count < high
+    → IsLinearizableTo log count → IsBetween log count high
+low_raised log low high count h less has = record { rising = less; within = h.within; has = has; lacks = h.lacks }
+
+pub high_lowered : (log : List Observation) (low high count : ℕ) → IsBetween log low high → low < count → count < high
+    → (IsLinearizableTo log count → ⊥) → IsBetween log low count
+high_lowered log low high count h more less lacks = record {
+  rising = more;
+  within = let most = h.within in omega (arith, less, most);
+  has = h.has;
+  lacks = lacks;
+}
+
+pub first_found : (log : List Observation) (low high : ℕ) → IsBetween log low high → high ≡ low + 1
+    → IsFirstLine log (Found low)
+first_found log low high h e = (
+  let most = h.within in omega (arith, most, e),
+  h.has,
+  subst (λ n. IsLinearizableTo log n → ⊥) e h.lacks,
+)
+
+-- ---- what is true of the first lines of a log is true of the log
+
+still_there : {A : Type 0} (xs : List A) (n k : ℕ) (x : A) → slice_get (take n xs) k ≡ Some x → slice_get xs k ≡ Some x
+still_there [] zero k x e = absurd (cc)
+still_there [] (suc n) k x e = absurd (cc)
+still_there (y ∷ xs) zero k x e = absurd (cc)
+still_there (y ∷ xs) (suc n) zero x e = e
+still_there (y ∷ xs) (suc n) (suc k) x e = still_there xs n k x e
+
+take_first : {A : Type 0} (xs : List A) (n k : ℕ) (x : A) → slice_get (take n xs) k ≡ Some x → take k (take n xs) ≡ take k xs
+take_first [] zero k x e = absurd (cc)
+take_first [] (suc n) k x e = absurd (cc)
+take_first (y ∷ xs) zero k x e = absurd (cc)
+take_first (y ∷ xs) (suc n) zero x e = refl
+take_first (y ∷ xs) (suc n) (suc k) x e = ap (λ ys. y ∷ ys) (take_first xs n k x e)
+
+splits_whole : (log : List Observation) (count line : ℕ) (later : Log) (o : Observation) (earlier : Log)
+    → IsSplitAt (take count log) line later o earlier
+    → IsSplitAt log line (reverse (drop count log) ++ later) o earlier
+splits_whole log count line later o earlier h = record {
+  whole = ap reverse (sym (take-append-drop count log)) ∙ reverse-append (take count log) (drop count log)
+      ∙ ap (λ xs. reverse (drop count log) ++ xs) h.whole
+      ∙ sym (append_assoc (reverse (drop count log)) later (o ∷ earlier));
+  there = still_there log count line o h.there;
+  first = h.first ∙ ap reverse (take_first log count line o h.there);
+}
+
+pub broken_whole : (log : List Observation) (count line : ℕ) (v : Violation) → IsBroken (take count log) line v
+    → IsBroken log line v
+broken_whole log count line v h = record {
+  later = reverse (drop count log) ++ h.later;
+  o = h.o;
+  earlier = h.earlier;
+  splits = splits_whole log count line h.later h.o h.earlier h.splits;
+  breaks = h.breaks;
+}
+
+pub cause_whole : (log : List Observation) (count : ℕ) (cause : Cause) → IsCause (take count log) cause → IsCause log cause
+cause_whole log count (Waiting line) h = record {
+  later = reverse (drop count log) ++ h.later;
+  o = h.o;
+  earlier = h.earlier;
+  splits = splits_whole log count line h.later h.o h.earlier h.splits;
+  many = h.many;
+}
+cause_whole log count (Configurations line) h = (h.0, h.1, still_there log count line _ h.2, h.3)
+cause_whole log count Unconfirmed h = h
+
+pub broken_of : (log : List Observation) (count : ℕ) (e : Explanation) (line : ℕ) (v : Violation) → e ≡ Broken line v
+    → IsExplanation (take count log) e → IsBroken log line v
+broken_of log count e line v is h = broken_whole log count line v (subst (IsExplanation (take count log)) is h)
+
+pub cause_of : (log : List Observation) (count : ℕ) (e : Explanation) (cause : Cause) → e ≡ Undecided cause
+    → IsExplanation (take count log) e → IsCause log cause
+cause_of log count e cause is h = cause_whole log count cause (subst (IsExplanation (take count log)) is h)

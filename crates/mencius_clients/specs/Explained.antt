@@ -1,0 +1,119 @@
+-- The verdict on a log, and what is true of it.
+use Rattle.std.specs.Prelude.{◌≡◌, ◌<◌, ◌++◌, ℕ, Bool, true, false, List, [], ◌∷◌, Option, Some, None, length, reverse, slice_get, if◌then◌else◌, take}
+use Rattle.mencius_base.specs.declared.command.Command.{Command}
+use Rattle.mencius_base.specs.declared.command.CommandId.{CommandId}
+use Rattle.mencius_model.specs.KeyMap.{key_of}
+use Rattle.mencius_judge.specs.declared.judge.Judge.{Judge}
+use Rattle.mencius_log.specs.declared.observation.Answer.{Answer}
+use Rattle.mencius_log.specs.declared.observation.Observation.{Observation}
+use Rattle.mencius_log.specs.declared.observation.Observation.TheVariants.{Submit, Execute, Reply, Lookup, Tell, Settle, Restore}
+use Rattle.mencius_judge.specs.declared.violation.Violation.{Violation}
+use Rattle.mencius_judge.specs.Judged.{Breaks, HasSeen}
+use Rattle.mencius_judge.specs.Linearization.{IsLinearization}
+use Rattle.mencius_judge.specs.Log.{Log, acknowledged, command_of, has_id, is_failed}
+use Rattle.mencius_judge.specs.Quotes.{NumberedLog, log_of}
+use Rattle.mencius_clients.specs.declared.explanation.Cause.{Cause}
+use Rattle.mencius_clients.specs.declared.explanation.Cause.TheVariants.{Waiting, Configurations, Unconfirmed}
+use Rattle.mencius_clients.specs.declared.explanation.Explanation.{Explanation}
+use Rattle.mencius_clients.specs.declared.explanation.Explanation.TheVariants.{Explained, Unexplained, Broken, Undecided}
+use Rattle.mencius_clients.specs.declared.checking.Heard.{Heard}
+use Rattle.mencius_clients.specs.declared.checking.Heard.TheVariants as hearing
+use Rattle.mencius_clients.specs.declared.outcome.Outcome.{Outcome}
+use Rattle.mencius_clients.specs.declared.outcome.Outcome.TheVariants.{Goes}
+use Rattle.mencius_clients.specs.declared.outcome.Outcome.TheVariants as outcome
+
+-- some order is a linearization of the log
+abbrev pub IsLinearizable : Log → Type 0
+IsLinearizable w = (order : List CommandId) × IsLinearization w order
+
+-- the observation is a submission or a reply
+abbrev pub is_of_client : Observation → Bool
+is_of_client (Submit command) = true
+is_of_client (Execute server id) = false
+is_of_client (Reply id answer) = true
+is_of_client (Lookup reader key text) = false
+is_of_client (Tell reader server) = false
+is_of_client (Settle server) = false
+is_of_client (Restore server source count) = false
+
+-- the submissions and replies of a log
+abbrev pub heard : Log → Log
+heard [] = []
+heard (o ∷ w) = if is_of_client o then o ∷ heard w else heard w
+
+-- the log, after which one server executed these commands
+abbrev pub executed : List CommandId → Log → Log
+executed [] w = w
+executed (id ∷ ids) w = executed ids (Execute 0 id ∷ w)
+
+-- the judge has seen this log, under some numbers of its lines
+abbrev pub HasHeard : Judge → Log → Type 0
+HasHeard judge w = (n : NumberedLog) × HasSeen judge n × (log_of n ≡ w)
+
+-- the log splits at this line into the later lines, the line's observation and the earlier lines, each with the newest
+-- line first
+pub record IsSplitAt (log : List Observation) (line : ℕ) (later : Log) (o : Observation) (earlier : Log) : Type 0 where
+  pub whole : reverse log ≡ later ++ o ∷ earlier
+  pub there : slice_get log line ≡ Some o
+  pub first : earlier ≡ reverse (take line log)
+
+-- the submission or reply at this line shows this violation, after the submissions and replies before it
+pub record IsBroken (log : List Observation) (line : ℕ) (violation : Violation) : Type 0 where
+  pub later : Log
+  pub o : Observation
+  pub earlier : Log
+  pub splits : IsSplitAt log line later o earlier
+  pub breaks : Breaks (heard earlier) o violation
+
+-- the greatest number of commands of one key that may wait
+abbrev pub most_waiting : ℕ
+most_waiting = 4096
+
+-- the last of these lines submits a command. After it, more than 4,096 commands of its key have no reply other than `failed`
+pub record AreManyWaiting (u : Log) : Type 0 where
+  pub command : Command
+  pub earlier : Log
+  pub ends : u ≡ Submit command ∷ earlier
+  pub ids : List CommandId
+  pub many : most_waiting < length ids
+  pub once : (n m : ℕ) (id : CommandId) → slice_get ids n ≡ Some id → slice_get ids m ≡ Some id → n ≡ m
+  pub each : (n : ℕ) (id : CommandId) → slice_get ids n ≡ Some id
+      → (c : Command) × (command_of u id ≡ Some c) × (key_of c.op ≡ key_of command.op) × (has_id (acknowledged u) id ≡ false)
+
+-- the search was given up at this line for this reason
+pub record IsManyAt (log : List Observation) (line : ℕ) : Type 0 where
+  pub later : Log
+  pub o : Observation
+  pub earlier : Log
+  pub splits : IsSplitAt log line later o earlier
+  pub many : AreManyWaiting (o ∷ earlier)
+
+-- the line is a reply other than `failed`
+abbrev pub IsReplyAt : List Observation → ℕ → Type 0
+IsReplyAt log line =
+    (id : CommandId) × (x : Answer) × (slice_get log line ≡ Some (Reply id x)) × (is_failed x ≡ false)
+
+-- the judge has seen the submissions and replies of the log, or one of them breaks a promise
+abbrev pub IsHeard : List Observation → Heard → Type 0
+IsHeard log (hearing.Kept judge) = HasHeard judge (heard (reverse log))
+IsHeard log (hearing.Broken fault) = IsBroken log fault.line fault.violation
+
+-- what is true if the search was given up for this reason
+abbrev pub IsCause : List Observation → Cause → Type 0
+IsCause log (Waiting line) = IsManyAt log line
+IsCause log (Configurations line) = IsReplyAt log line
+IsCause log Unconfirmed = Unit {0}
+
+-- the verdict of a search with this outcome at this line. A search that goes on has none
+abbrev pub IsEnd : Outcome → ℕ → Option Explanation → Type 0
+IsEnd Goes line found = found ≡ None
+IsEnd outcome.Unexplained line found = found ≡ Some (Unexplained line)
+IsEnd outcome.Waiting line found = found ≡ Some (Undecided (Waiting line))
+IsEnd outcome.Configurations line found = found ≡ Some (Undecided (Configurations line))
+
+-- the explanation of the log is right
+abbrev pub IsExplanation : List Observation → Explanation → Type 0
+IsExplanation log (Explained order) = IsLinearization (reverse log) order.items
+IsExplanation log (Unexplained line) = IsLinearizable (reverse log) → ⊥
+IsExplanation log (Broken line violation) = IsBroken log line violation
+IsExplanation log (Undecided cause) = IsCause log cause

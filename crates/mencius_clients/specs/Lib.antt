@@ -1,0 +1,10 @@
+pub mod Configurations
+pub mod Reached
+pub mod Searched
+pub mod Explained
+pub mod FirstLines
+pub mod ReadLogs
+pub mod ClientCounts
+pub mod Keys
+pub mod ClientVerdicts
+pub mod ClientLines

@@ -1,0 +1,129 @@
+//! The verdict on a log.
+
+ghost use Rattle.std.specs.Prelude.{◌≡◌, ◌<◌, [], IfOk, IfSome, MatchOption, length, reverse, slice_get, Some};
+ghost use Rattle.mencius_clients.specs.Configurations.{AreReplyLines};
+ghost use Rattle.mencius_clients.specs.Explained.{HasHeard, IsEnd, IsExplanation, heard};
+ghost use Rattle.mencius_clients.specs.Searched.{HasSearched};
+
+use crate::answers::reply_lines;
+use crate::checking::{Heard, hear, is_confirmed};
+use crate::orders::merged_order;
+use crate::outcome::Outcome;
+use crate::search::Search;
+use mencius_base::{CommandId, NoMemory};
+use mencius_judge::{Judge, Violation};
+use mencius_log::Observation;
+use std::alloc::Global;
+use std::collections::BTreeMap;
+
+/// The reason why a search was given up.
+#[derive(Clone, Copy, Debug)]
+pub enum Cause {
+    /// With the command that this line submits, more than 4,096 commands of its key wait for their replies.
+    Waiting { line: usize },
+    /// The reply at this line makes as many configurations of its key as the limit allows, or more.
+    Configurations { line: usize },
+    /// The judge did not confirm the order that the search found.
+    Unconfirmed,
+}
+
+/// The verdict on the submissions and replies of a log. Lines count from 0.
+#[derive(Debug, Drop)]
+pub enum Explanation {
+    /// This order of the commands is a linearization.
+    Explained { order: Vec<CommandId> },
+    /// No order is a linearization. The search ended at this line. It knew all replies of the log, so the log up to this
+    /// line may still have a linearization.
+    Unexplained { line: usize },
+    /// Submissions and replies alone break a promise, and this line is the first that does.
+    Broken { line: usize, violation: Violation },
+    /// The search was given up.
+    Undecided { cause: Cause },
+}
+
+/// Searches for an order of the commands that is a linearization of the log's submissions and replies. The search is
+/// given up if more than 4,096 commands of one key wait for their replies at once, or if a reply makes `limit`
+/// configurations of its key or more.
+pub fn explain(alloc: Global, log: &[Observation], limit: usize) -> Result<Explanation, NoMemory>
+    ensures { IfOk result (IsExplanation log.now) }
+{
+    match hear(alloc, log)? {
+        Heard::Broken { fault } => Ok(Explanation::Broken {
+            line: fault.line,
+            violation: fault.violation,
+        }),
+        Heard::Kept { judge } => explain_heard(alloc, judge, log, limit),
+    }
+}
+
+/// Searches for such an order, if the judge has seen the submissions and replies of the log.
+pub fn explain_heard(
+    alloc: Global,
+    judge: Judge,
+    log: &[Observation],
+    limit: usize,
+) -> Result<Explanation, NoMemory>
+    ensures { IfOk result (λ found. HasHeard judge (heard (reverse log.now)) → IsExplanation log.now found) }
+{
+    let replies = reply_lines(alloc, log)?;
+    let mut search = Search::new(alloc);
+    if let Some(explanation) = search_all(log, &replies, limit, &mut search)? {
+        return Ok(explanation);
+    }
+    let mut judge = judge;
+    confirm_order(alloc, &mut judge, log, &search)
+}
+
+// Takes one line of the log after the other. Returns the verdict of a search that ends early.
+fn search_all(
+    log: &[Observation],
+    replies: &BTreeMap<u64, usize>,
+    limit: usize,
+    search: &mut Search,
+) -> Result<Option<Explanation>, NoMemory>
+    requires { AreReplyLines log.now replies.now (length log.now) }
+    ensures { IfOk result (λ found. HasSearched (reverse log.now) [] log.now search.old
+        → IfSome found (IsExplanation log.now)) }
+{
+    for line in 0..log.len() {
+        let outcome = search.take(log, replies, line, &log[line], limit)?;
+        if let Some(explanation) = ended(outcome, line) {
+            return Ok(Some(explanation));
+        }
+    }
+    Ok(None)
+}
+
+// Returns the verdict of a search that has this outcome at a line, unless it goes on.
+fn ended(outcome: Outcome, line: usize) -> Option<Explanation>
+    ensures { IsEnd outcome line result }
+{
+    match outcome {
+        Outcome::Goes => None,
+        Outcome::Unexplained => Some(Explanation::Unexplained { line }),
+        Outcome::Waiting => Some(Explanation::Undecided {
+            cause: Cause::Waiting { line },
+        }),
+        Outcome::Configurations => Some(Explanation::Undecided {
+            cause: Cause::Configurations { line },
+        }),
+    }
+}
+
+// Returns the order that the search found, if the judge confirms it.
+fn confirm_order(
+    alloc: Global,
+    judge: &mut Judge,
+    log: &[Observation],
+    search: &Search,
+) -> Result<Explanation, NoMemory>
+    ensures { IfOk result (λ found. HasHeard judge.old (heard (reverse log.now)) → IsExplanation log.now found) }
+{
+    let order = merged_order(alloc, log, search)?;
+    if is_confirmed(alloc, judge, log, order.as_slice())? {
+        return Ok(Explanation::Explained { order });
+    }
+    Ok(Explanation::Undecided {
+        cause: Cause::Unconfirmed,
+    })
+}

@@ -1,0 +1,37 @@
+//! Whether some order of the commands is a linearization of what clients saw of a store.
+#![tactic(auto)]
+
+mod answers;
+mod checking;
+mod client_counts;
+mod client_judge;
+mod client_lines;
+mod client_log;
+mod client_verdict;
+mod configuration;
+mod explanation;
+mod first_lines;
+mod identities;
+mod key_search;
+mod line_keys;
+mod orders;
+mod outcome;
+mod search;
+mod slot_set;
+mod slots;
+mod steps;
+mod tables;
+mod texts;
+mod twins;
+mod work;
+
+pub use client_counts::ClientCounts;
+pub use client_judge::judge_clients;
+pub use client_lines::{push_client_verdict, push_order};
+pub use client_log::{ClientLog, read_log};
+pub use client_verdict::{ClientJudgement, ClientVerdict, GiveUp};
+pub use explanation::{Cause, Explanation, explain};
+pub use first_lines::{FirstLine, first_line};
+
+#[cfg(test)]
+mod tests;

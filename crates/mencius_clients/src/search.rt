@@ -1,0 +1,191 @@
+//! The search of a whole log, one line after the other.
+
+ghost use Rattle.std.specs.Prelude.{◌≡◌, ◌≢◌, ◌++◌, ◌∷◌, ℕ, List, [], IfOk, MatchBool, MatchOption, OnOk, Option, None, Some, length, reverse, slice_get};
+ghost use Rattle.std.specs.Bool.{OnTrue};
+ghost use Rattle.std.specs.BTreeMap.{Updates, get, get_by_text};
+ghost use Rattle.std.specs.Ordering.{nat_cmp};
+ghost use Rattle.mencius_judge.specs.Log.{Log};
+ghost use Rattle.mencius_judge.specs.Tables.{identity_key};
+ghost use Rattle.mencius_log.specs.declared.observation.Observation.{Observation};
+ghost use Rattle.mencius_log.specs.declared.observation.Observation.TheVariants.{Reply, Submit};
+ghost use Rattle.mencius_clients.specs.Configurations.{AreReplyLines, IsAnswered, IsCrowded, IsPlaced, submitted_by};
+
+use crate::answers::{is_failed, is_idle};
+use crate::identities::identity_key;
+use crate::key_search::KeySearch;
+use crate::outcome::Outcome;
+use crate::steps::Step;
+use crate::tables::{put, put_text};
+use crate::texts::{key_of, submitted_at};
+use mencius_base::{Command, CommandId, NoMemory};
+use mencius_log::{Answer, Observation};
+use std::alloc::Global;
+use std::collections::BTreeMap;
+
+/// A search for an order, after a part of the log.
+#[derive(Drop)]
+pub struct Search {
+    alloc: Global,
+    // The line that first submits each command, by its identity.
+    pub calls: BTreeMap<u64, usize>,
+    pub by_key: BTreeMap<String, KeySearch>,
+    pub trail: Vec<Step>,
+}
+
+impl Search {
+    ghost use Rattle.mencius_clients.specs.Searched.{HasSearched, IsAfter, called_at, configurations_of, slots_of};
+
+    /// Returns the search before the first line.
+    pub fn new(alloc: Global) -> Search
+        ensures { (w : Log) (log : List Observation) → HasSearched w [] log result }
+    {
+        Search {
+            alloc,
+            calls: BTreeMap::new(alloc),
+            by_key: BTreeMap::new(alloc),
+            trail: Vec::new(alloc),
+        }
+    }
+
+    /// Takes the next line of the log.
+    pub fn take(
+        &mut self,
+        log: &[Observation],
+        replies: &BTreeMap<u64, usize>,
+        line: usize,
+        observation: &Observation,
+        limit: usize,
+    ) -> Result<Outcome, NoMemory>
+        requires line { slice_get log.now line ≡ Some observation.now }
+        requires replies { AreReplyLines log.now replies.now (length log.now) }
+        ensures { IfOk result (λ outcome. (u later : Log) → reverse log.now ≡ later ++ observation.now ∷ u
+            → HasSearched (reverse log.now) u log.now self.old
+            → IsAfter (reverse log.now) (observation.now ∷ u) log.now self.new outcome) }
+    {
+        match observation {
+            Observation::Submit { command } => self.call(log, replies, line, command),
+            Observation::Reply { id, answer } => self.reply(log, replies, *id, answer, limit),
+            _ => Ok(Outcome::Goes),
+        }
+    }
+
+    fn call(
+        &mut self,
+        log: &[Observation],
+        replies: &BTreeMap<u64, usize>,
+        line: usize,
+        command: &Command,
+    ) -> Result<Outcome, NoMemory>
+        requires line { slice_get log.now line ≡ Some (Submit command.now) }
+        requires replies { AreReplyLines log.now replies.now (length log.now) }
+        ensures { IfOk result (λ outcome. (u later : Log) → reverse log.now ≡ later ++ Submit command.now ∷ u
+            → HasSearched (reverse log.now) u log.now self.old
+            → IsAfter (reverse log.now) (Submit command.now ∷ u) log.now self.new outcome) }
+    {
+        let id = command.id();
+        if let Some(_known) = self.called(log, id) {
+            return Ok(Outcome::Goes);
+        }
+        if is_idle(log, replies, command) {
+            put(&mut self.calls, identity_key(id), line)?;
+            return Ok(Outcome::Goes);
+        }
+        if !self.call_key(log, key_of(command.op()), line)? {
+            return Ok(Outcome::Waiting);
+        }
+        put(&mut self.calls, identity_key(id), line)?;
+        Ok(Outcome::Goes)
+    }
+
+    // Lets the command that a line submits wait in a slot of its key. Returns false if no slot is free.
+    fn call_key(&mut self, log: &[Observation], key: &str, line: usize) -> Result<bool, NoMemory>
+        ensures calls { self.new.calls ≡ self.old.calls }
+        ensures slots { IfOk result (λ placed. MatchBool placed
+            (IsPlaced log.now (slots_of (get_by_text self.old.by_key key.now))
+            (slots_of (get_by_text self.new.by_key key.now)) line)
+            (IsCrowded log.now (slots_of (get_by_text self.old.by_key key.now)))) }
+        ensures configurations { IfOk result (λ placed. OnTrue placed (configurations_of (get_by_text self.new.by_key key.now)
+            ≡ configurations_of (get_by_text self.old.by_key key.now))) }
+        ensures others { IfOk result (λ placed. OnTrue placed ((x : List ℕ) → x ≢ key.now
+            → get_by_text self.new.by_key x ≡ get_by_text self.old.by_key x)) }
+    {
+        let mut search = self.take_key(key)?;
+        if !search.call(log, line)? {
+            return Ok(false);
+        }
+        put_text(self.alloc, &mut self.by_key, key, search)?;
+        Ok(true)
+    }
+
+    // Takes the search of a key out of the table.
+    fn take_key(&mut self, key: &str) -> Result<KeySearch, NoMemory>
+        ensures calls { self.new.calls ≡ self.old.calls }
+        ensures slots { IfOk result (λ s. s.slots.items ≡ slots_of (get_by_text self.old.by_key key.now)) }
+        ensures configurations { IfOk result (λ s. s.configurations.items
+            ≡ configurations_of (get_by_text self.old.by_key key.now)) }
+        ensures others { (x : List ℕ) → x ≢ key.now
+            → get_by_text self.new.by_key x ≡ get_by_text self.old.by_key x }
+    {
+        match self.by_key.remove(key) {
+            Some(search) => Ok(search),
+            None => KeySearch::new(self.alloc),
+        }
+    }
+
+    fn reply(
+        &mut self,
+        log: &[Observation],
+        replies: &BTreeMap<u64, usize>,
+        id: CommandId,
+        answer: &Answer,
+        limit: usize,
+    ) -> Result<Outcome, NoMemory>
+        requires { AreReplyLines log.now replies.now (length log.now) }
+        ensures { IfOk result (λ outcome. (u later : Log) → reverse log.now ≡ later ++ Reply id answer.now ∷ u
+            → HasSearched (reverse log.now) u log.now self.old
+            → IsAfter (reverse log.now) (Reply id answer.now ∷ u) log.now self.new outcome) }
+    {
+        if is_failed(answer) {
+            return Ok(Outcome::Goes);
+        }
+        let Some(command) = self.called(log, id) else {
+            return Ok(Outcome::Unexplained);
+        };
+        let outcome = self.reply_key(log, replies, key_of(command.op()), id, limit)?;
+        Ok(outcome)
+    }
+
+    // Returns the command with an identity, if it was submitted.
+    fn called<'a>(&self, log: &'a [Observation], id: CommandId) -> Option<&'a Command>
+        ensures { MatchOption result (called_at log.now (get nat_cmp self.now.calls (identity_key id)) ≡ None)
+            (λ c. called_at log.now (get nat_cmp self.now.calls (identity_key id)) ≡ Some c.now) }
+    {
+        match self.calls.get(&identity_key(id)) {
+            Some(line) => submitted_at(log, *line),
+            None => None,
+        }
+    }
+
+    // Takes a reply to a command of this key.
+    fn reply_key(
+        &mut self,
+        log: &[Observation],
+        replies: &BTreeMap<u64, usize>,
+        key: &str,
+        id: CommandId,
+        limit: usize,
+    ) -> Result<Outcome, NoMemory>
+        requires { AreReplyLines log.now replies.now (length log.now) }
+        ensures calls { self.new.calls ≡ self.old.calls }
+        ensures own { IfOk result (λ outcome. IsAnswered log.now id (slots_of (get_by_text self.old.by_key key.now))
+            (configurations_of (get_by_text self.old.by_key key.now)) (slots_of (get_by_text self.new.by_key key.now))
+            (configurations_of (get_by_text self.new.by_key key.now)) outcome) }
+        ensures others { OnOk result ((x : List ℕ) → x ≢ key.now
+            → get_by_text self.new.by_key x ≡ get_by_text self.old.by_key x) }
+    {
+        let mut search = self.take_key(key)?;
+        let outcome = search.reply(self.alloc, log, replies, id, limit, &mut self.trail)?;
+        put_text(self.alloc, &mut self.by_key, key, search)?;
+        Ok(outcome)
+    }
+}

@@ -1,0 +1,468 @@
+//! The effect of waiting commands, one after the other, up to a command that gets its reply.
+
+ghost use Rattle.std.specs.Prelude.{◌≡◌, ◌≢◌, true, Contains, ◌<◌, ◌≤◌, ◌++◌, ◌∷◌, ◌⊎◌, ℕ, List, [], IfOk, IfSome, OnOk, IsTrue, MatchOption, Some, false, length, slice_get};
+ghost use Rattle.mencius_base.specs.declared.command.Command.{Command};
+ghost use Rattle.mencius_log.specs.declared.observation.Observation.{Observation};
+ghost use Rattle.mencius_log.specs.declared.observation.Observation.TheVariants.{Reply};
+ghost use Rattle.mencius_judge.specs.Log.{is_failed};
+ghost use Rattle.mencius_clients.specs.declared.configuration.Configuration.{Configuration};
+ghost use Rattle.mencius_clients.specs.Configurations.{AllFollow, AreLost, AreReplyLines, Calls, FollowsAt, HasLess, HasRead, IsBarred, IsFreed, IsLonger, IsOneOf, IsPassed, IsRead, IsReadOn, IsRefuted, IsSettled, IsStep, IsUnacknowledged, become, has_slot, submitted_by, text_at, waiting};
+
+use crate::answers::{is_right_at, is_unacknowledged, reads_text, reply_at};
+use crate::configuration::Configuration;
+use crate::slot_set::SlotSet;
+use crate::texts::{is_cas, is_same_text_at, number_after, submitted_at};
+use crate::twins::{gives_way, twins_of};
+use crate::work::{Work, configuration_at};
+use mencius_base::{Command, NoMemory};
+use mencius_log::{Answer, Observation};
+use std::alloc::Global;
+use std::collections::BTreeMap;
+
+/// A command that took effect.
+#[derive(Clone, Copy, Debug)]
+pub struct Step {
+    // The line that submits the command.
+    pub line: usize,
+    // The number of the step before, from 1, or 0 if there is none.
+    pub before: usize,
+}
+
+// Returns the configuration after the command that a line submits.
+fn after(
+    log: &[Observation],
+    from: &Configuration,
+    slot: usize,
+    line: usize,
+    command: &Command,
+    unseen: bool,
+) -> Configuration
+    requires slot { slot < 4096 }
+    requires line { submitted_by (slice_get log.now line) ≡ Some command.now }
+    ensures here { has_slot result.done slot ≡ true }
+    ensures elsewhere { (other : ℕ) → other ≢ slot → has_slot result.done other ≡ has_slot from.now.done other }
+    ensures text { text_at log.now result.text ≡ become (text_at log.now from.now.text) command.now.op }
+    ensures unseen { result.unseen ≡ unseen }
+{
+    Configuration {
+        done: from.done.with(slot),
+        text: number_after(log, from.text, line, command.op()),
+        unseen,
+        trail: from.trail,
+    }
+}
+
+// Returns the configuration after a command that has this reply. Returns None if the reply would be wrong.
+fn answered_step(
+    log: &[Observation],
+    from: &Configuration,
+    slot: usize,
+    line: usize,
+    command: &Command,
+    answer: &Answer,
+) -> Option<Configuration>
+    requires slot { slot < 4096 }
+    requires line { submitted_by (slice_get log.now line) ≡ Some command.now }
+    requires answer { Contains log.now (Reply command.now.id answer.now) }
+    requires counts { is_failed answer.now ≡ false }
+    ensures { MatchOption result (IsRefuted log.now command.now from.now)
+        (λ c. (calls : Calls) → IsStep log.now calls slot command.now from.now c) }
+{
+    if !is_right_at(log, from.text, command.op(), answer) {
+        return None;
+    }
+    Some(after(log, from, slot, line, command, false))
+}
+
+// Returns the configuration after a command that never has a reply other than `failed`. Returns None if the command
+// changes nothing, or overwrites a text that no one has seen.
+fn unanswered_step(
+    log: &[Observation],
+    from: &Configuration,
+    slot: usize,
+    line: usize,
+    command: &Command,
+) -> Option<Configuration>
+    requires slot { slot < 4096 }
+    requires line { submitted_by (slice_get log.now line) ≡ Some command.now }
+    requires unacknowledged { IsUnacknowledged log.now command.now.id }
+    ensures { MatchOption result (IsPassed log.now command.now from.now)
+        (λ c. (calls : Calls) → IsStep log.now calls slot command.now from.now c) }
+{
+    let new = after(log, from, slot, line, command, true);
+    if is_same_text_at(log, new.text, from.text) {
+        return None;
+    }
+    if from.unseen && !is_cas(command.op()) {
+        return None;
+    }
+    Some(new)
+}
+
+// Returns the configuration after the command that a line submits, if the command may take effect.
+fn stepped(
+    log: &[Observation],
+    replies: &BTreeMap<u64, usize>,
+    from: &Configuration,
+    slot: usize,
+    line: usize,
+    command: &Command,
+) -> Option<Configuration>
+    requires slot { slot < 4096 }
+    requires line { submitted_by (slice_get log.now line) ≡ Some command.now }
+    requires replies { AreReplyLines log.now replies.now (length log.now) }
+    ensures { MatchOption result (IsBarred log.now command.now from.now)
+        (λ c. (calls : Calls) → IsStep log.now calls slot command.now from.now c) }
+{
+    if is_unacknowledged(log, replies, command) {
+        return unanswered_step(log, from, slot, line, command);
+    }
+    let answer = reply_at(log, replies, command.id())?;
+    answered_step(log, from, slot, line, command, answer)
+}
+
+// Lets a waiting read take effect, if its reply is right for the text of the configuration.
+fn with_read(
+    log: &[Observation],
+    replies: &BTreeMap<u64, usize>,
+    slots: &[Option<usize>],
+    from: &Configuration,
+    slot: usize,
+) -> Configuration
+    requires slot { slot < length slots.now }
+    requires few { length slots.now ≤ 4096 }
+    ensures { (from.now ≡ result) ⊎ IsRead log.now (waiting log.now slots.now) slot from.now result }
+{
+    let Some(line) = slots[slot] else {
+        return *from;
+    };
+    let Some(command) = submitted_at(log, line) else {
+        return *from;
+    };
+    if from.done.has(slot) || !reads_text(log, replies, from.text, command) {
+        return *from;
+    }
+    Configuration {
+        done: from.done.with(slot),
+        text: from.text,
+        unseen: false,
+        trail: from.trail,
+    }
+}
+
+// Lets all waiting reads take effect whose replies are right for the text of the configuration.
+fn with_reads(
+    log: &[Observation],
+    replies: &BTreeMap<u64, usize>,
+    slots: &[Option<usize>],
+    from: &Configuration,
+) -> Configuration
+    requires { length slots.now ≤ 4096 }
+    ensures { IsReadOn log.now (waiting log.now slots.now) from.now result }
+{
+    let mut new = *from;
+    for slot in 0..slots.len() {
+        new = with_read(log, replies, slots, &new, slot);
+    }
+    new
+}
+
+// Adds the command that a line submits, and then the reads that only the second configuration has, to the trail of the
+// first one. Returns the number of the last step. Nothing is proved about the trail, because the judge confirms the order.
+fn push_trail(
+    slots: &[Option<usize>],
+    from: &Configuration,
+    line: Option<usize>,
+    to: &Configuration,
+    trail: &mut Vec<Step>,
+) -> Result<usize, NoMemory>
+    requires { length slots.now ≤ 4096 }
+{
+    let mut before = from.trail;
+    if let Some(line) = line {
+        trail.push(Step { line, before })?;
+        before = trail.len();
+    }
+    for slot in 0..slots.len() {
+        if let Some(line) = slots[slot] {
+            if to.done.has(slot) && !from.done.has(slot) {
+                trail.push(Step { line, before })?;
+                before = trail.len();
+            }
+        }
+    }
+    Ok(before)
+}
+
+// Adds a configuration, after the waiting reads that are right for its text, unless a known one stands for it. The
+// configuration was reached by the command that a line submits.
+fn push_new(
+    log: &[Observation],
+    replies: &BTreeMap<u64, usize>,
+    slots: &[Option<usize>],
+    new: &Configuration,
+    line: Option<usize>,
+    lost: &SlotSet,
+    work: &mut Work,
+    trail: &mut Vec<Step>,
+) -> Result<(), NoMemory>
+    requires lost { AreLost log.now (waiting log.now slots.now) lost.now }
+    requires few { length slots.now ≤ 4096 }
+    ensures longer { OnOk result (IsLonger work.old.configurations.items work.new.configurations.items) }
+    ensures there { OnOk result (HasRead log.now (waiting log.now slots.now) work.new.configurations.items new.now) }
+{
+    let read = with_reads(log, replies, slots, new);
+    if work.has_better(log, &read, lost) {
+        return Ok(());
+    }
+    let last = push_trail(slots, new, line, &read, trail)?;
+    let reached = Configuration {
+        done: read.done,
+        text: read.text,
+        unseen: read.unseen,
+        trail: last,
+    };
+    work.push(log, reached, lost)?;
+    Ok(())
+}
+
+// Adds the configuration after the command in a slot.
+fn push_step(
+    log: &[Observation],
+    replies: &BTreeMap<u64, usize>,
+    slots: &[Option<usize>],
+    from: &Configuration,
+    slot: usize,
+    lost: &SlotSet,
+    work: &mut Work,
+    trail: &mut Vec<Step>,
+) -> Result<(), NoMemory>
+    requires slot { slot < length slots.now }
+    requires lost { AreLost log.now (waiting log.now slots.now) lost.now }
+    requires few { length slots.now ≤ 4096 }
+    requires replies { AreReplyLines log.now replies.now (length log.now) }
+    ensures longer { OnOk result (IsLonger work.old.configurations.items work.new.configurations.items) }
+    ensures follows { OnOk result (FollowsAt log.now slots.now work.new.configurations.items from.now slot) }
+{
+    let Some(line) = slots[slot] else {
+        return Ok(());
+    };
+    let Some(command) = submitted_at(log, line) else {
+        return Ok(());
+    };
+    if from.done.has(slot) {
+        return Ok(());
+    }
+    let Some(new) = stepped(log, replies, from, slot, line, command) else {
+        return Ok(());
+    };
+    push_new(log, replies, slots, &new, Some(line), lost, work, trail)
+}
+
+// Adds the configurations after each of the waiting commands.
+fn push_steps(
+    log: &[Observation],
+    replies: &BTreeMap<u64, usize>,
+    slots: &[Option<usize>],
+    from: &Configuration,
+    lost: &SlotSet,
+    twins: &[usize],
+    work: &mut Work,
+    trail: &mut Vec<Step>,
+) -> Result<(), NoMemory>
+    requires lost { AreLost log.now (waiting log.now slots.now) lost.now }
+    requires few { length slots.now ≤ 4096 }
+    requires replies { AreReplyLines log.now replies.now (length log.now) }
+    ensures longer { OnOk result (IsLonger work.old.configurations.items work.new.configurations.items) }
+    ensures follow { OnOk result (AllFollow log.now slots.now work.new.configurations.items from.now) }
+{
+    for slot in 0..slots.len() {
+        if !gives_way(log, slots, from, slot, lost, twins) {
+            push_step(log, replies, slots, from, slot, lost, work, trail)?;
+        }
+    }
+    Ok(())
+}
+
+// Returns the configurations after the waiting reads that are right for their texts.
+fn begun(
+    alloc: Global,
+    log: &[Observation],
+    replies: &BTreeMap<u64, usize>,
+    slots: &[Option<usize>],
+    configurations: &[Configuration],
+    lost: &SlotSet,
+    trail: &mut Vec<Step>,
+) -> Result<Work, NoMemory>
+    requires lost { AreLost log.now (waiting log.now slots.now) lost.now }
+    requires few { length slots.now ≤ 4096 }
+    ensures { IfOk result (λ work. (c : Configuration) → IsOneOf configurations.now c
+        → HasRead log.now (waiting log.now slots.now) work.configurations.items c) }
+{
+    let mut work = Work::new(alloc);
+    for configuration in configurations {
+        push_new(
+            log,
+            replies,
+            slots,
+            configuration,
+            None,
+            lost,
+            &mut work,
+            trail,
+        )?;
+    }
+    Ok(work)
+}
+
+// Returns the configuration after the reply to the command in a slot.
+fn freed(from: &Configuration, slot: usize) -> Configuration
+    requires { slot < 4096 }
+    ensures { (log : List Observation) (calls : Calls) → IsFreed log calls slot from.now result }
+{
+    Configuration {
+        done: from.done.without(slot),
+        text: from.text,
+        unseen: false,
+        trail: from.trail,
+    }
+}
+
+// Adds the configuration after the reply to the command in a slot, unless a known one stands for it.
+fn push_freed(
+    log: &[Observation],
+    next: &mut Work,
+    from: &Configuration,
+    slot: usize,
+    lost: &SlotSet,
+) -> Result<(), NoMemory>
+    requires { slot < 4096 }
+    ensures longer { OnOk result (IsLonger next.old.configurations.items next.new.configurations.items) }
+    ensures there { OnOk result ((calls : Calls) → AreLost log.now calls lost.now
+        → (d : Configuration) × IsOneOf next.new.configurations.items d × IsFreed log.now calls slot from.now d) }
+{
+    let new = freed(from, slot);
+    if next.has_better(log, &new, lost) {
+        return Ok(());
+    }
+    next.push(log, new, lost)?;
+    Ok(())
+}
+
+// Returns the configurations without those that a later one stands for.
+fn best_of(
+    alloc: Global,
+    log: &[Observation],
+    configurations: &[Configuration],
+    lost: &SlotSet,
+) -> Result<Vec<Configuration>, NoMemory>
+    ensures { IfOk result (λ best. (calls : Calls) → AreLost log.now calls lost.now
+        → (d : Configuration) → IsOneOf configurations.now d → HasLess log.now calls best.items d) }
+{
+    let mut best = Work::new(alloc);
+    for count in 0..configurations.len() {
+        let configuration = configurations[configurations.len() - 1 - count];
+        push_better(log, &mut best, configuration, lost)?;
+    }
+    Ok(best.configurations)
+}
+
+// Adds a configuration, unless another one stands for it.
+fn push_better(
+    log: &[Observation],
+    best: &mut Work,
+    new: Configuration,
+    lost: &SlotSet,
+) -> Result<(), NoMemory>
+    ensures longer { OnOk result (IsLonger best.old.configurations.items best.new.configurations.items) }
+    ensures there { OnOk result ((calls : Calls) → AreLost log.now calls lost.now
+        → HasLess log.now calls best.new.configurations.items new) }
+{
+    if best.has_better(log, &new, lost) {
+        return Ok(());
+    }
+    best.push(log, new, lost)?;
+    Ok(())
+}
+
+// Returns the slots of commands that never get a reply other than `failed`.
+fn lost_slots(
+    log: &[Observation],
+    replies: &BTreeMap<u64, usize>,
+    slots: &[Option<usize>],
+) -> SlotSet
+    requires few { length slots.now ≤ 4096 }
+    requires replies { AreReplyLines log.now replies.now (length log.now) }
+    ensures { AreLost log.now (waiting log.now slots.now) result }
+{
+    let mut lost = SlotSet::new();
+    for slot in 0..slots.len() {
+        if is_lost(log, replies, slots, slot) {
+            lost = lost.with(slot);
+        }
+    }
+    lost
+}
+
+fn is_lost(
+    log: &[Observation],
+    replies: &BTreeMap<u64, usize>,
+    slots: &[Option<usize>],
+    slot: usize,
+) -> bool
+    requires slot { slot < length slots.now }
+    requires replies { AreReplyLines log.now replies.now (length log.now) }
+    ensures { IsTrue result → (f : Command) → waiting log.now slots.now slot ≡ Some f → IsUnacknowledged log.now f.id }
+{
+    let Some(line) = slots[slot] else {
+        return false;
+    };
+    match submitted_at(log, line) {
+        Some(command) => is_unacknowledged(log, replies, command),
+        None => false,
+    }
+}
+
+/// Returns the configurations after the reply to the command in a slot, in which this command has taken effect, perhaps
+/// after others. Returns None if `limit` configurations arise or more.
+pub fn settled(
+    alloc: Global,
+    log: &[Observation],
+    replies: &BTreeMap<u64, usize>,
+    slots: &[Option<usize>],
+    configurations: &[Configuration],
+    slot: usize,
+    limit: usize,
+    trail: &mut Vec<Step>,
+) -> Result<Option<Vec<Configuration>>, NoMemory>
+    requires slot { slot < 4096 }
+    requires few { length slots.now ≤ 4096 }
+    requires replies { AreReplyLines log.now replies.now (length log.now) }
+    ensures { IfOk result (λ o. IfSome o (λ next. IsSettled log.now slots.now configurations.now slot next.items)) }
+{
+    let lost = lost_slots(log, replies, slots);
+    let twins = twins_of(alloc, log, slots, &lost)?;
+    let mut work = begun(alloc, log, replies, slots, configurations, &lost, trail)?;
+    let mut next = Work::new(alloc);
+    for place in 0..limit {
+        let Some(from) = configuration_at(work.configurations.as_slice(), place) else {
+            let best = best_of(alloc, log, next.configurations.as_slice(), &lost)?;
+            return Ok(Some(best));
+        };
+        if from.done.has(slot) {
+            push_freed(log, &mut next, &from, slot, &lost)?;
+        } else {
+            push_steps(
+                log,
+                replies,
+                slots,
+                &from,
+                &lost,
+                twins.as_slice(),
+                &mut work,
+                trail,
+            )?;
+        }
+    }
+    Ok(None)
+}
