@@ -4,3 +4,4 @@ pub mod TaskEnds
 pub mod ArgumentAnswers
 pub mod PictureFaults
 pub mod CheckedInputs
+pub mod LogFaults

@@ -4,12 +4,13 @@ use Rattle.std.specs.Io.KnownBytes.{Appends}
 use Rattle.clap.specs.Words.{IsAmong, Text}
 use Rattle.clap.specs.declared.error.kind.ErrorKind.{ErrorKind}
 use Rattle.mencius_io.specs.Streams.{HasFailed, StreamState, WritesFront, most_failed_calls}
-use Rattle.mencius_command_line.specs.CommandLine.{TaskState, are_texts, asked_check, asked_draw, asked_judge, asked_replay, asked_run, asked_trace, faults, line_of, task_in}
+use Rattle.mencius_command_line.specs.CommandLine.{TaskState, are_texts, asked_check, asked_clients, asked_draw, asked_judge, asked_replay, asked_run, asked_trace, faults, line_of, task_in}
 use Rattle.mencius_command_line.specs.Help.{shown_for}
 use Rattle.mencius_command_line.specs.declared.trace_options.TraceOptions.{TraceOptions}
 use Rattle.mencius_input.specs.declared.kind.Kind.TheVariants as input
 use Rattle.mencius_input.specs.Scenario.{scenario}
 use Rattle.mencius_app.specs.Check.{check_task}
+use Rattle.mencius_app.specs.ClientJudgements.{ExplainsBadLine, IsBadLog, clients_task}
 use Rattle.mencius_app.specs.Pictures.{ExplainsPicture, draw_task}
 use Rattle.mencius_app.specs.Ending.{failure_in}
 use Rattle.mencius_app.specs.Failures.{ExplainsAs, ExplainsByFields, ExplainsIn, Explanation, Fails}
@@ -33,7 +34,8 @@ use Rattle.mencius_app.specs.declared.call.RunOptions.{RunOptions}
 abbrev pub view_of : TraceOptions → View
 view_of x = record { is_json = x.is_json; instance = x.instance; command = x.command; server = x.server }
 
--- the task that a command line requests. A trace or a drawing whose options have a bad value can write no text
+-- the task that a command line requests. A trace or a drawing whose options have a bad value can write no text, and
+-- neither can a judgement of what clients saw without valid options
 abbrev pub task_of : TaskState → Task
 task_of (asked_replay is_strict) = replay_task
 task_of (asked_trace (Some options)) = trace_task (view_of options)
@@ -42,6 +44,9 @@ task_of (asked_draw (Some options)) = draw_task options
 task_of (asked_draw None) = record { IsText = λ known text is_clean. ⊥; IsBadInput = HasFault (unless_long scenario) }
 task_of asked_check = check_task
 task_of (asked_judge is_brief is_json) = judge_task is_brief is_json
+task_of (asked_clients (Some options)) = clients_task options
+task_of (asked_clients None) =
+    record { IsText = λ known text is_clean. ⊥; IsBadInput = λ known fault. IfSome known (λ bytes. IsBadLog bytes fault) }
 task_of (asked_run with_journal with_observations key) = run_task with_journal with_observations key
 
 -- the words that a requested task may give for a fault of its input
@@ -49,13 +54,15 @@ abbrev pub explanation_of : TaskState → Explanation
 explanation_of (asked_draw (Some options)) = ExplainsPicture options
 explanation_of asked_check = ExplainsByFields
 explanation_of (asked_judge is_brief is_json) = ExplainsByLine
+explanation_of (asked_clients options) = ExplainsBadLine
 explanation_of (asked_run with_journal with_observations key) = ExplainsAs input.Run
 explanation_of _ = ExplainsAs input.Replay
 
--- whether the ending of a requested task reports a text that is not clean. Only a strict replay and a judgement do so
+-- whether the ending of a requested task reports a text that is not clean. Only a strict replay and the judgements do so
 abbrev pub is_reporting : TaskState → Bool
 is_reporting (asked_replay is_strict) = is_strict
 is_reporting (asked_judge is_brief is_json) = true
+is_reporting (asked_clients options) = true
 is_reporting _ = false
 
 -- the requested task that is a run with these options

@@ -7,6 +7,7 @@ ghost use Rattle.mencius_app.specs.Failures.{FailsReading};
 ghost use Rattle.mencius_app.specs.Tasks.{IsOutput, streams};
 
 use crate::checks::read_check;
+use crate::client_judgements::read_client_judgement;
 use crate::ending::{Ending, ending_of, ending_of_run};
 use crate::judgements::read_judgement;
 use crate::no_task::{NOT_TEXT, answer_command_line};
@@ -157,6 +158,7 @@ fn is_reporting(task: &Task) -> bool
     match task {
         Task::Replay { is_strict } => *is_strict,
         Task::Judge { .. } => true,
+        Task::Clients(_) => true,
         Task::Trace(_) | Task::Draw(_) | Task::Check | Task::Run { .. } => false,
     }
 }
@@ -195,6 +197,7 @@ fn read_task<R: Source>(
         Task::Judge { is_brief, is_json } => {
             Ok(read_judgement(alloc, source, is_brief, is_json))
         }
+        Task::Clients(options) => Ok(read_client_judgement(alloc, source, options)),
         Task::Run {
             with_journal,
             with_observations,

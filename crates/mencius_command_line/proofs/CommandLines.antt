@@ -19,7 +19,7 @@ use Rattle.clap.proofs.OnLiterals.{clap_on_literals}
 use Rattle.clap.proofs.WalkLemmas.{first_value-rows}
 use Rattle.mencius_base.specs.Command.{is_name}
 use Rattle.mencius_format.specs.Words.{number_of}
-use Rattle.mencius_command_line.specs.CommandLine.{TaskState, task_in, asked_replay, asked_draw, asked_judge, asked_run, faults, program, with_joined_key}
+use Rattle.mencius_command_line.specs.CommandLine.{TaskState, task_in, asked_replay, asked_clients, asked_draw, asked_judge, asked_run, faults, program, with_joined_key}
 use Rattle.mencius_command_line.specs.Flags.{has_flag}
 use Rattle.mencius_draw.specs.declared.options.Scheme.TheVariants.{Both, Light, Dark}
 
@@ -172,6 +172,36 @@ json-asked = refl
 json-taken : fault_at (codes "judge" ∷ codes "--json" ∷ codes "--brief" ∷ []) ≡ []
 unfolding clap_on_literals
 json-taken = refl
+
+clients-asked : asked_at (codes "judge" ∷ codes "--clients" ∷ [])
+    ≡ asked_clients (Some (record { most = 100000; with_order = false }))
+unfolding clap_on_literals
+clients-asked = refl
+
+order-asked : asked_at (codes "judge" ∷ codes "--clients" ∷ codes "--order" ∷ codes "--most" ∷ codes "9" ∷ [])
+    ≡ asked_clients (Some (record { most = 9; with_order = true }))
+unfolding clap_on_literals number_of
+order-asked = refl
+
+order-taken : fault_at (codes "judge" ∷ codes "--clients" ∷ codes "--order" ∷ codes "--most=9" ∷ []) ≡ []
+unfolding clap_on_literals number_of
+order-taken = refl
+
+most-no-number : fault_at (codes "judge" ∷ codes "--clients" ∷ codes "--most=x" ∷ []) ≡ kind.ValueValidation ∷ []
+unfolding clap_on_literals number_of
+most-no-number = refl
+
+order-without-clients : fault_at (codes "judge" ∷ codes "--order" ∷ []) ≡ kind.ValueValidation ∷ []
+unfolding clap_on_literals
+order-without-clients = refl
+
+most-without-clients : fault_at (codes "judge" ∷ codes "--most=9" ∷ []) ≡ kind.ValueValidation ∷ []
+unfolding clap_on_literals
+most-without-clients = refl
+
+clients-with-json : fault_at (codes "judge" ∷ codes "--clients" ∷ codes "--json" ∷ []) ≡ kind.ValueValidation ∷ []
+unfolding clap_on_literals
+clients-with-json = refl
 
 run-taken : fault_at (codes "run" ∷ []) ≡ []
 unfolding clap_on_literals

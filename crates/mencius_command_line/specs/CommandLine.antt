@@ -9,9 +9,11 @@ use Rattle.clap.specs.declared.builder.action.ArgAction.TheVariants.{Set, SetTru
 use Rattle.clap.specs.declared.error.kind.ErrorKind.TheVariants as kind
 use Rattle.mencius_base.specs.Command.{is_key_length, is_name}
 use Rattle.mencius_draw.specs.declared.options.Options.{Options}
+use Rattle.mencius_command_line.specs.ClientOptions.{client_faults, client_options_of, clients_option, has_client_option, most_option, order_option}
 use Rattle.mencius_command_line.specs.DrawOptions.{draw_task, options_of, part_faults}
 use Rattle.mencius_command_line.specs.Flags.{has_flag, json_option}
 use Rattle.mencius_command_line.specs.TraceOptions.{trace_faults, trace_options_of, trace_task}
+use Rattle.mencius_command_line.specs.declared.client_options.ClientOptions.{ClientOptions}
 use Rattle.mencius_command_line.specs.declared.line.Task.{Task}
 use Rattle.mencius_command_line.specs.declared.line.Task.TheVariants as task
 use Rattle.mencius_command_line.specs.declared.trace_options.TraceOptions.{TraceOptions}
@@ -55,7 +57,9 @@ brief_option = record (new_rule (codes "brief")) { long = Some (codes "brief"); 
 
 -- the task `judge`, with its options
 abbrev pub judge_task : App
-judge_task = with_rule (with_rule (new_app (codes "judge")) brief_option) json_option
+judge_task =
+    with_rule (with_rule (with_rule (with_rule (with_rule (new_app (codes "judge")) brief_option) json_option)
+    clients_option) most_option) order_option
 
 -- the task `run`, with its options
 abbrev pub run_task : App
@@ -74,7 +78,8 @@ program = with_subcommand (with_subcommand with_replays judge_task.top) run_task
 -- ---- the requested task
 
 -- the task that a command line requests, with its options. `choice` is `None` if a word in the options names no
--- instance, command or server. `part` is `None` if a place in the options is not a number, and `key` is `None` if no key
+-- instance, command or server. `part` is `None` if a place in the options is not a number. The options of
+-- `asked_clients` are `None` if they do not fit together or one is not a number. `key` is `None` if no key
 -- is looked up
 pub data TaskState : Type 0 where
   asked_replay : (is_strict : Bool) → TaskState
@@ -82,7 +87,15 @@ pub data TaskState : Type 0 where
   asked_draw : (part : Option Options) → TaskState
   asked_check : TaskState
   asked_judge : (is_brief is_json : Bool) → TaskState
+  asked_clients : (options : Option ClientOptions) → TaskState
   asked_run : (with_journal with_observations : Bool) (key : Option Text) → TaskState
+
+-- the judgement that the options of `judge` request
+abbrev pub judge_by : List Row → TaskState
+judge_by rows =
+    if has_client_option rows
+    then asked_clients (client_options_of rows)
+    else asked_judge (has_flag (codes "brief") rows) (has_flag (codes "json") rows)
 
 -- the task with a name, with the options that were found for it. An unknown name counts as `replay`, and so does a
 -- missing task
@@ -94,7 +107,7 @@ task_by_name (Some (name, rows)) =
     else if bytes_eq name (codes "trace") then asked_trace (trace_options_of rows)
     else if bytes_eq name (codes "draw") then asked_draw (options_of rows)
     else if bytes_eq name (codes "check") then asked_check
-    else if bytes_eq name (codes "judge") then asked_judge (has_flag (codes "brief") rows) (has_flag (codes "json") rows)
+    else if bytes_eq name (codes "judge") then judge_by rows
     else asked_replay (has_flag (codes "strict") rows)
 
 -- the words with each `--lookup` joined to the word after it, as `--lookup=KEY`, because a KEY may begin with a hyphen
@@ -120,6 +133,7 @@ task_state (task.Trace options) = asked_trace (Some options)
 task_state (task.Draw options) = asked_draw (Some options)
 task_state task.Check = asked_check
 task_state (task.Judge is_brief is_json) = asked_judge is_brief is_json
+task_state (task.Clients options) = asked_clients (Some options)
 task_state (task.Run with_journal with_observations key) =
     asked_run with_journal with_observations (option_map string_bytes key)
 
@@ -141,6 +155,7 @@ value_faults (asked_trace choice) = trace_faults choice
 value_faults (asked_draw part) = part_faults part
 value_faults asked_check = []
 value_faults (asked_judge is_brief is_json) = []
+value_faults (asked_clients options) = client_faults options
 value_faults (asked_run with_journal with_observations None) = []
 value_faults (asked_run with_journal with_observations (Some key)) = bad_key_faults (if is_key key then None else Some key)
 

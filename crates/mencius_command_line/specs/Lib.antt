@@ -1,4 +1,5 @@
 pub mod Flags
+pub mod ClientOptions
 pub mod DrawOptions
 pub mod TraceOptions
 pub mod CommandLine

@@ -3,9 +3,12 @@
 ghost use Rattle.std.specs.Prelude.{◌≡◌, ◌≤◌, ◌∷◌, false, IfErr, IfOk, Some, codes, length, map, option_copied, option_map, string_bytes};
 ghost use Rattle.clap.specs.declared.builder.command.Command.TheViews.{out-Command as fields_of};
 ghost use Rattle.clap.specs.Words.{FailsBy, HasKind, app_of, first_of, found_of, kind_of, rows_of, rule_of, subcommand_rows_of};
-ghost use Rattle.mencius_command_line.specs.CommandLine.{task_in, task_by_name, task_state, bad_key_faults, brief_option, faults, check_task, is_key, journal_option, judge_task, lookup_option, observations_option, program, replay_task, run_task, strict_option, value_faults, with_joined_key, with_replays, without_tasks, words_read};
+ghost use Rattle.mencius_command_line.specs.CommandLine.{task_in, task_by_name, judge_by, task_state, bad_key_faults, brief_option, faults, check_task, is_key, journal_option, judge_task, lookup_option, observations_option, program, replay_task, run_task, strict_option, value_faults, with_joined_key, with_replays, without_tasks, words_read};
 ghost use Rattle.mencius_command_line.specs.Flags.{has_flag, json_option};
 
+use crate::client_options::{
+    ClientOptions, client_options_of, clients_option, has_client_option, most_option, order_option,
+};
 use crate::draw_options::{draw_command, options_of};
 use crate::trace_options::{TraceOptions, trace_command, trace_options_of};
 use clap::error::ErrorKind;
@@ -35,6 +38,8 @@ pub enum Task {
         /// Whether the verdict is printed as a JSON object.
         is_json: bool,
     },
+    /// A judgement of what clients saw, by the log on standard input.
+    Clients(ClientOptions),
     /// A run of the workers of the scenario on standard input.
     Run {
         /// Whether the journal is printed before the report.
@@ -150,15 +155,18 @@ pub(crate) fn json_option<'a>(alloc: Global) -> Arg<'a>
         .action(ArgAction::SetTrue)
 }
 
-// Builds the task `judge`, with its options.
-fn judge_command<'a>(alloc: Global) -> Result<Command<'a>, AllocError>
+/// Builds the task `judge`, with its options.
+pub(crate) fn judge_command<'a>(alloc: Global) -> Result<Command<'a>, AllocError>
     ensures judge { IfOk result (λ command. app_of command ≡ judge_task) }
     ensures local { IfOk result (λ command. (fields_of command).has_globals ≡ false) }
 {
     Command::new(alloc, "judge")
         .override_usage(JUDGE_USAGE)
         .arg(brief_option(alloc))?
-        .arg(json_option(alloc))
+        .arg(json_option(alloc))?
+        .arg(clients_option(alloc))?
+        .arg(most_option(alloc))?
+        .arg(order_option(alloc))
 }
 
 // Builds the program without its tasks.
@@ -249,6 +257,19 @@ fn key_of(alloc: Global, options: &ArgMatches) -> Result<Option<String>, AllocEr
     }
 }
 
+// Returns the judgement that the options of `judge` request.
+fn judge_by(alloc: Global, options: &ArgMatches) -> Result<Task, Error>
+    ensures task { IfOk result (λ task. task_state task ≡ judge_by (rows_of (found_of options.now))) }
+    ensures faults { IfErr result (HasKind (value_faults (judge_by (rows_of (found_of options.now))))) }
+{
+    if has_client_option(options) {
+        return Ok(Task::Clients(client_options_of(alloc, options)?));
+    }
+    let is_brief = has_flag(options, "brief");
+    let is_json = has_flag(options, "json");
+    Ok(Task::Judge { is_brief, is_json })
+}
+
 // Returns the task with this name, with its options.
 fn task_named(alloc: Global, name: &str, options: &ArgMatches) -> Result<Task, Error>
     ensures task { IfOk result (λ task. task_state task
@@ -276,9 +297,7 @@ fn task_named(alloc: Global, name: &str, options: &ArgMatches) -> Result<Task, E
         return Ok(Task::Check);
     }
     if name == "judge" {
-        let is_brief = has_flag(options, "brief");
-        let is_json = has_flag(options, "json");
-        return Ok(Task::Judge { is_brief, is_json });
+        return judge_by(alloc, options);
     }
     let is_strict = has_flag(options, "strict");
     Ok(Task::Replay { is_strict })
@@ -343,17 +362,19 @@ fn key_error(alloc: Global, key: &str) -> Result<Error, AllocError>
 /// - `trace [--json] [--instance I] [--command ID] [--server S]`
 /// - `draw [--from EVENT] [--to EVENT] [--dark] [--light]`
 /// - `check`
-/// - `judge [--brief] [--json]`
+/// - `judge [--brief] [--json] [--clients] [--most N] [--order]`
 /// - `run [--journal] [--observations] [--lookup KEY]`
 ///
-/// A KEY that is not a key of a command is also refused. So is an EVENT, an I or an S that is not a number, and an ID
-/// that is not the identity of a command.
+/// A KEY that is not a key of a command is also refused. So is an EVENT, an I, an N or an S that is not a number, and an
+/// ID that is not the identity of a command. `--most` and `--order` are refused without `--clients`, and `--json` is
+/// refused with it.
 ///
 /// # Errors
 ///
 /// The error contains the text to print, and says whether the text goes to standard error. Its exit status is 0 if help
 /// or the version was requested, and 2 for a bad command line. Its kind is `ValueValidation` for a bad value of an
-/// option. It is `OutOfMemory` if memory ran out, which may happen for any words.
+/// option, and for options of `judge` that do not fit together. It is `OutOfMemory` if memory ran out, which may happen
+/// for any words.
 pub fn read_command_line(alloc: Global, words: &[String]) -> Result<Task, Error>
     ensures task { IfOk result (λ task. task_state task ≡ task_in (map string_bytes words.now)) }
     ensures faults { FailsBy (faults (map string_bytes words.now)) result }

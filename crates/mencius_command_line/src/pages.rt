@@ -329,16 +329,38 @@ LINE counts all lines of the log from 1. The lines after it do not change the ve
 violation come the lines of the log that prove it, each as `line K: OBSERVATION`, and then a
 sentence that says what was expected and why.
 
+With --clients, only the submissions and replies count. The program reads the whole log, of at
+most 16777216 bytes, and searches for an order of the commands that explains it. Each command
+that had a reply other than `failed` is in the order. A command comes after all commands that
+had such a reply before it was submitted. Each reply is right at its command's place. The
+verdict is one of these, or a violation of OneCommand, Submitted or OneReply, which come first:
+
+  linearizable commands C replies R lost L keys K
+                            There is such an order. C commands of K keys were submitted, R of
+                            them have a reply, and L have none
+  unjudged commands C replies 0 lost L keys K
+                            No command has a reply
+  violation LINE Linearizable key KEY
+                            There is no such order up to this reply, and there is one before it
+  undecided LINE key KEY waiting W
+                            The search was given up, because W commands of KEY wait for a reply
+  undecided LINE key KEY configurations N
+                            The search was given up because of --most
+
 Usage: mencius judge [OPTIONS] < LOG
 
 Options:
-      --brief  Prints only the line of the verdict
-      --json   Prints the verdict, its lines and its sentence as one JSON object
-  -h, --help   Print help
+      --brief    Prints only the line of the verdict
+      --json     Prints the verdict, its lines and its sentence as one JSON object
+      --clients  Judges only the submissions and replies, as described above
+      --most N   With --clients, gives up if a reply makes N possible states of its key or
+                 more. N is 0 to 4294967295, and 100000 without this option
+      --order    With --clients, prints the order that was found, as lines `execute 0 ID`
+  -h, --help     Print help
 
 Exit status:
-  0  ok: every promise is kept
-  1  a promise is broken, or the log is unjudged
+  0  ok: every promise is kept. Or linearizable
+  1  a promise is broken, or the log is unjudged or undecided
   2  a bad command line
   3  a bad line: 22 BadShape, 23 BadLimit
   4  reading or writing failed: 24 ReadFailed, 25 WriteFailed
@@ -349,9 +371,10 @@ line ran out. The program then printed nothing, unless writing failed. A line ha
 bytes. The last line must end with a line feed, too. A carriage return before a line feed is
 left out.
 
-Examples, at the top of the repository. The second breaks a promise:
+Examples, at the top of the repository. The second breaks a promise, and the third has an order:
   printf 'submit 1.0 set a x\\nexecute 0 1.0\\nreply 1.0 none\\n' | ./mencius judge
   printf 'submit 1.0 set a x\\nexecute 0 1.0\\nreply 1.0 =y\\n' | ./mencius judge
+  printf 'submit 1.0 set a x\\nreply 1.0 none\\n' | ./mencius judge --clients --order
 
 docs/FORMATS.md describes the log in full, and docs/TESTING_A_STORE.md explains how to make one.
 ";

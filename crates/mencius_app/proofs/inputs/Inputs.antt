@@ -84,7 +84,7 @@ pub failing : {Y : Type 0} (fault : IoFault) (answer : Result Y IoFault) → Fai
 failing NoMemory answer h = inl refl
 failing _ answer h = inr h
 
-known_words : (Tells : Explanation) (known : Option (List ℕ)) (text : List ℕ) (fault : IoFault) (words : Option (String Global))
+pub known_words : (Tells : Explanation) (known : Option (List ℕ)) (text : List ℕ) (fault : IoFault) (words : Option (String Global))
     → IfSome known (λ all. all ≡ text) → IfSome words (λ said. Tells fault text (string_bytes said))
     → IfSome words (λ said. ExplainsIn Tells known fault (string_bytes said))
 known_words Tells known text fault words same h = IfSome_then words h (λ said told.

@@ -6,3 +6,6 @@ returns-in-Replay c = search rules
 
 pub returns-in-Judge : goal.returns-in-Judge
 returns-in-Judge c = search rules
+
+pub returns-in-Clients : goal.returns-in-Clients
+returns-in-Clients c = search rules

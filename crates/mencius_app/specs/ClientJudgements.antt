@@ -1,0 +1,60 @@
+-- The text of a judgement of what clients saw, and the log that it belongs to.
+use Rattle.std.specs.Prelude.{◌≡◌, ◌×◌, ◌⊎◌, ◌<◌, ℕ, Bool, true, false, if◌then◌else◌, List, [], ◌++◌, Option, IfSome, length}
+use Rattle.mencius_io.specs.Streams.{most_bytes}
+use Rattle.mencius_io.specs.declared.fault.IoFault.{IoFault}
+use Rattle.mencius_io.specs.declared.fault.IoFault.TheVariants.{BadLimit}
+use Rattle.mencius_log.specs.BadLines.{ExplainsLine}
+use Rattle.mencius_clients.specs.declared.client_verdict.ClientVerdict.{ClientVerdict}
+use Rattle.mencius_clients.specs.declared.client_verdict.ClientVerdict.TheVariants.{Linearizable, Unjudged, NotLinearizable, Broken, Undecided, Unconfirmed}
+use Rattle.mencius_clients.specs.ClientLines.{client_verdict_line, order_lines}
+use Rattle.mencius_clients.specs.ClientVerdicts.{IsVerdictFor}
+use Rattle.mencius_clients.specs.ReadLogs.{IsBadAt}
+use Rattle.mencius_command_line.specs.declared.client_options.ClientOptions.{ClientOptions}
+use Rattle.mencius_app.specs.Tasks.{Task}
+
+-- the lines of the order of a verdict, as the executions of one server. Only a linearizable log has an order
+abbrev pub order_text : ClientVerdict → List ℕ
+order_text (Linearizable counts order) = order_lines order.items
+order_text (Unjudged counts) = []
+order_text (NotLinearizable number key) = []
+order_text (Broken number violation) = []
+order_text (Undecided number key cause) = []
+order_text Unconfirmed = []
+
+-- the line of the verdict, and then the order if it was requested
+abbrev pub client_text : Bool → ClientVerdict → List ℕ
+client_text with_order verdict =
+    client_verdict_line verdict ++ (if with_order then order_text verdict else [])
+
+-- whether a verdict says that the log is linearizable
+abbrev pub is_linearizable : ClientVerdict → Bool
+is_linearizable (Linearizable counts order) = true
+is_linearizable (Unjudged counts) = false
+is_linearizable (NotLinearizable number key) = false
+is_linearizable (Broken number violation) = false
+is_linearizable (Undecided number key cause) = false
+is_linearizable Unconfirmed = false
+
+-- the text reports a verdict on some bytes, and `kept` says whether the verdict is that they are linearizable. If the
+-- reader's bytes are known, they are these bytes
+pub record IsClientJudgementOf (options : ClientOptions) (known : Option (List ℕ)) (text : List ℕ) (kept : Bool)
+    : Type 0 where
+  pub verdict : ClientVerdict
+  pub on : (bytes : List ℕ) × IfSome known (λ all. all ≡ bytes) × IsVerdictFor bytes options.most verdict
+  pub is : text ≡ client_text options.with_order verdict
+  pub says : kept ≡ is_linearizable verdict
+
+-- a line of the bytes has this fault, or there are too many bytes
+abbrev pub IsBadLog : List ℕ → IoFault → Type 0
+IsBadLog bytes fault = ((fault ≡ BadLimit) × (most_bytes < length bytes)) ⊎ ((number : ℕ) × IsBadAt bytes fault number)
+
+-- the task of judging what clients saw, with its options. Its text is clean exactly if the log is linearizable
+abbrev pub clients_task : ClientOptions → Task
+clients_task options = record {
+  IsText = IsClientJudgementOf options;
+  IsBadInput = λ known fault. IfSome known (λ bytes. IsBadLog bytes fault);
+}
+
+-- the words name the number of a line of the log that has this fault
+abbrev pub ExplainsBadLine : IoFault → List ℕ → List ℕ → Type 0
+ExplainsBadLine fault bytes words = (number : ℕ) × IsBadAt bytes fault number × ExplainsLine number words

@@ -1,0 +1,69 @@
+-- The options of the task `judge` for a log that clients saw.
+use Rattle.std.specs.Prelude.{ℕ, ◌&&◌, ◌||◌, Bool, false, not, if◌then◌else◌, List, [], ◌∷◌, Option, Some, None, Result, Ok, Err, codes, is_some}
+use Rattle.clap.specs.Words.{Kinds, Row, Rule, Text, first_of, new_rule}
+use Rattle.clap.specs.declared.builder.action.ArgAction.TheVariants.{Set, SetTrue}
+use Rattle.clap.specs.declared.error.kind.ErrorKind.TheVariants as kind
+use Rattle.mencius_io.specs.declared.fault.IoFault.{IoFault}
+use Rattle.mencius_format.specs.ValuesOrFaults.{value_or_fault}
+use Rattle.mencius_format.specs.Words.{is_u32, number_of}
+use Rattle.mencius_command_line.specs.Flags.{has_flag}
+use Rattle.mencius_command_line.specs.declared.client_options.ClientOptions.{ClientOptions}
+
+-- ---- the options
+
+-- the flag `--clients`
+abbrev pub clients_option : Rule
+clients_option = record (new_rule (codes "clients")) { long = Some (codes "clients"); action = Some SetTrue }
+
+-- the option `--most N`
+abbrev pub most_option : Rule
+most_option = record (new_rule (codes "most")) { long = Some (codes "most"); action = Some Set; value_names = 1 }
+
+-- the flag `--order`
+abbrev pub order_option : Rule
+order_option = record (new_rule (codes "order")) { long = Some (codes "order"); action = Some SetTrue }
+
+-- ---- the requested judgement
+
+-- one of these options was given
+abbrev pub has_client_option : List Row → Bool
+has_client_option rows =
+    has_flag (codes "clients") rows || (has_flag (codes "order") rows || is_some (first_of (codes "most") rows))
+
+-- the options fit together. `--most` and `--order` need `--clients`, and `--json` excludes it
+abbrev pub fit_together : List Row → Bool
+fit_together rows = has_flag (codes "clients") rows && not (has_flag (codes "json") rows)
+
+-- the number of configurations without `--most`
+abbrev pub default_most : ℕ
+default_most = 100000
+
+-- the number that a word names, by the rules for numbers in events, or the fault of the word. If the word is missing,
+-- it is the default
+abbrev pub most_in : Option Text → Result ℕ IoFault
+most_in None = Ok default_most
+most_in (Some word) = value_or_fault is_u32 (number_of word)
+
+-- the options with this number, or none if the number has a fault
+abbrev pub client_options_by : Bool → Result ℕ IoFault → Option ClientOptions
+client_options_by with_order (Ok most) = Some (record { most = most; with_order = with_order })
+client_options_by with_order (Err fault) = None
+
+-- the options of a judgement of what clients saw, or none if the options do not fit together or N is not a number
+abbrev pub client_options_of : List Row → Option ClientOptions
+client_options_of rows =
+    if fit_together rows
+    then client_options_by (has_flag (codes "order") rows) (most_in (first_of (codes "most") rows))
+    else None
+
+-- ---- their faults
+
+-- the kind of error for a word that is not a number, and no kind for a number
+abbrev pub most_faults : Result ℕ IoFault → Kinds
+most_faults (Ok most) = []
+most_faults (Err fault) = kind.ValueValidation ∷ []
+
+-- the kind of error for options that are none, and no kind for any other options
+abbrev pub client_faults : Option ClientOptions → Kinds
+client_faults (Some options) = []
+client_faults None = kind.ValueValidation ∷ []

@@ -1,0 +1,126 @@
+//! Reads the options of the task `judge` for a log that clients saw.
+
+ghost use Rattle.std.specs.Prelude.{◌≡◌, IfOk, Ok, Some, codes, false, is_some, true};
+ghost use Rattle.clap.specs.Words.{FailsBy, first_of, found_of, kind_of, rows_of, rule_of};
+ghost use Rattle.mencius_command_line.specs.ClientOptions.{client_faults, client_options_of, clients_option, fit_together, has_client_option, most_faults, most_in, most_option, order_option};
+
+use crate::line::{has_flag, judge_command};
+use clap::error::ErrorKind;
+use clap::{Arg, ArgAction, ArgMatches, Error};
+use mencius_format::parse_u32;
+use std::alloc::{AllocError, Global};
+
+/// The options of a judgement of what clients saw.
+#[derive(Clone, Copy, Debug, PartialEq, Eq)]
+pub struct ClientOptions {
+    /// The number of configurations of a key at which a reply ends the search.
+    pub most: u32,
+    /// Whether the order that was found is printed.
+    pub with_order: bool,
+}
+
+const DEFAULT_MOST: u32 = 100_000;
+
+const MOST_RULE: &str = "the number of configurations is a number, 0 to 4294967295";
+
+const OPTIONS_RULE: &str =
+    "'--most' and '--order' need '--clients', which cannot be used with '--json'";
+
+/// Builds the option `--clients`.
+pub(crate) fn clients_option<'a>(alloc: Global) -> Arg<'a>
+    ensures rule { rule_of result ≡ clients_option }
+    ensures local { result.global ≡ false }
+{
+    Arg::new(alloc, "clients")
+        .long("clients")
+        .action(ArgAction::SetTrue)
+}
+
+/// Builds the option `--most N`.
+pub(crate) fn most_option<'a>(alloc: Global) -> Arg<'a>
+    ensures rule { rule_of result ≡ most_option }
+    ensures local { result.global ≡ false }
+{
+    Arg::new(alloc, "most")
+        .long("most")
+        .action(ArgAction::Set)
+        .value_name("N")
+}
+
+/// Builds the option `--order`.
+pub(crate) fn order_option<'a>(alloc: Global) -> Arg<'a>
+    ensures rule { rule_of result ≡ order_option }
+    ensures local { result.global ≡ false }
+{
+    Arg::new(alloc, "order")
+        .long("order")
+        .action(ArgAction::SetTrue)
+}
+
+/// Returns whether one of these options was given.
+pub(crate) fn has_client_option(matches: &ArgMatches) -> bool
+    ensures { result ≡ has_client_option (rows_of (found_of matches.now)) }
+{
+    has_flag(matches, "clients") || has_flag(matches, "order") || has_value(matches, "most")
+}
+
+// Returns whether an option was given.
+fn has_value(matches: &ArgMatches, name: &str) -> bool
+    ensures { result ≡ is_some (first_of name.now (rows_of (found_of matches.now))) }
+{
+    match matches.get_str(name) {
+        Some(_) => true,
+        None => false,
+    }
+}
+
+// Returns whether the options fit together.
+fn fit_together(matches: &ArgMatches) -> bool
+    ensures { result ≡ fit_together (rows_of (found_of matches.now)) }
+{
+    has_flag(matches, "clients") && !has_flag(matches, "json")
+}
+
+// Returns the number of configurations that the options name.
+fn most_in(alloc: Global, matches: &ArgMatches) -> Result<u32, Error>
+    ensures most { IfOk result (λ most. most_in (first_of (codes "most") (rows_of (found_of matches.now))) ≡ Ok most) }
+    ensures faults { FailsBy (most_faults (most_in (first_of (codes "most") (rows_of (found_of matches.now))))) result }
+{
+    match matches.get_str("most") {
+        Some(word) => match parse_u32(word) {
+            Ok(most) => Ok(most),
+            Err(_) => Err(most_error(alloc, word)?),
+        },
+        None => Ok(DEFAULT_MOST),
+    }
+}
+
+// Builds the error for a word that is not a number. It has the form of `clap`'s own errors, and the usage of `judge`.
+fn most_error(alloc: Global, word: &str) -> Result<Error, AllocError>
+    ensures { IfOk result (λ e. kind_of e ≡ ErrorKind.ValueValidation) }
+{
+    let message = format!(in alloc; "invalid value '{word}' for '--most <N>': {MOST_RULE}")?;
+    judge_command(alloc)?.error(ErrorKind::ValueValidation, message.as_str())
+}
+
+// Builds the error for options that do not fit together.
+fn misfit_error(alloc: Global) -> Result<Error, AllocError>
+    ensures { IfOk result (λ e. kind_of e ≡ ErrorKind.ValueValidation) }
+{
+    judge_command(alloc)?.error(ErrorKind::ValueValidation, OPTIONS_RULE)
+}
+
+/// Returns the options of a judgement of what clients saw. Fails if the options do not fit together, or if N is not a
+/// number.
+pub(crate) fn client_options_of(alloc: Global, matches: &ArgMatches) -> Result<ClientOptions, Error>
+    ensures options { IfOk result (λ options.
+        client_options_of (rows_of (found_of matches.now)) ≡ Some options) }
+    ensures faults { FailsBy (client_faults (client_options_of (rows_of (found_of matches.now)))) result }
+{
+    if !fit_together(matches) {
+        return Err(misfit_error(alloc)?);
+    }
+    let most = most_in(alloc, matches)?;
+    let with_order = has_flag(matches, "order");
+    Ok(ClientOptions { most, with_order })
+}
