@@ -6,3 +6,9 @@ returns-in-Draw-clause-made g c = search rules
 
 pub returns-in-Draw-clause-fault : goal.returns-in-Draw-clause-fault
 returns-in-Draw-clause-fault g c = search rules
+
+pub returns-in-Clients-clause-made : goal.returns-in-Clients-clause-made
+returns-in-Clients-clause-made g c = search rules
+
+pub returns-in-Clients-clause-fault : goal.returns-in-Clients-clause-fault
+returns-in-Clients-clause-fault g c = search rules
