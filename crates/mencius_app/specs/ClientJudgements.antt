@@ -1,5 +1,5 @@
 -- The text of a judgement of what clients saw, and the log that it belongs to.
-use Rattle.std.specs.Prelude.{◌≡◌, ◌×◌, ◌⊎◌, ◌<◌, ℕ, Bool, true, false, if◌then◌else◌, List, [], ◌++◌, Option, IfSome, length}
+use Rattle.std.specs.Prelude.{◌≡◌, ◌⊎◌, ◌<◌, ℕ, Bool, true, false, if◌then◌else◌, List, [], ◌++◌, Option, IfSome, length}
 use Rattle.mencius_io.specs.Streams.{most_bytes}
 use Rattle.mencius_io.specs.declared.fault.IoFault.{IoFault}
 use Rattle.mencius_io.specs.declared.fault.IoFault.TheVariants.{BadLimit}
