@@ -1,5 +1,4 @@
 -- Facts about the texts that tasks write.
 pub mod EventTexts
 pub mod KeptEvents
-pub mod SentAcceptances
 pub mod JoinedTexts

@@ -22,7 +22,6 @@ mod runs;
 mod states;
 mod traces;
 mod turns;
-mod votes;
 
 pub use arguments::arguments_of;
 pub use call::{perform, perform_in_turns};

@@ -7,3 +7,4 @@ pub mod MessageLines
 pub mod EffectParts
 pub mod EffectLists
 pub mod SettledMessages
+pub mod SentAcceptances

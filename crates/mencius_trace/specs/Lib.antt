@@ -9,3 +9,4 @@ pub mod Suggestions
 pub mod EventLines
 pub mod LastLines
 pub mod Settled
+pub mod Slots

@@ -28,7 +28,12 @@ pub(crate) fn push_value(
     }
 }
 
-fn push_vote(text: &mut String, cluster: &Cluster, vote: Option<Vote>) -> Result<(), AllocError>
+/// Adds a vote with its ballot and value to a text, or says that there is none.
+pub(crate) fn push_vote(
+    text: &mut String,
+    cluster: &Cluster,
+    vote: Option<Vote>,
+) -> Result<(), AllocError>
     ensures { OnOk result (string_bytes text.new
         ≡ string_bytes text.old ++ vote_text (trace_of cluster.now) vote) }
 {

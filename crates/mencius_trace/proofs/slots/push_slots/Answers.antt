@@ -1,6 +1,8 @@
-use Rattle.mencius_app.proofs.Words.{append-nil, string_bytes, sym, trace_of, texts_further}
-use Rattle.mencius_app.specs.States.{slot_line_at, slot_lines}
-use Rattle.mencius_app.proofs.states.push_slots.Goals as goal
+use Rattle.std.proofs.Common.{append-nil, string_bytes, sym}
+use Rattle.mencius_cluster.specs.State.{trace_of}
+use Rattle.mencius_trace.proofs.TextLoops.{texts_further}
+use Rattle.mencius_trace.specs.Slots.{slot_line_at, slot_lines}
+use Rattle.mencius_trace.proofs.slots.push_slots.Goals as goal
 
 pub loop-inst-init : goal.loop-inst-init
 unfolding slot_lines

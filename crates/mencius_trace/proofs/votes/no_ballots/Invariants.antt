@@ -1,5 +1,5 @@
-use Rattle.mencius_app.proofs.Words.{◌≡◌, ℕ, None, get_or, vec_len}
-use Rattle.mencius_app.proofs.votes.no_ballots.Given as goal
+use Rattle.std.proofs.Common.{◌≡◌, ℕ, None, get_or, vec_len}
+use Rattle.mencius_trace.proofs.votes.no_ballots.Given as goal
 
 abbrev pub invariant-loop-inst : goal.invariant-loop-inst
 invariant-loop-inst l = record {

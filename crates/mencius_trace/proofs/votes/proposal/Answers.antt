@@ -1,6 +1,8 @@
-use Rattle.mencius_app.proofs.Words.{◌≤◌, length, sym, arith, trace_of, sent_messages}
-use Rattle.mencius_app.proofs.texts.SentAcceptances.{proposed_here, unsaid_further, unsaid_whole}
-use Rattle.mencius_app.proofs.votes.proposal.Goals as goal
+use Rattle.std.proofs.Common.{◌≤◌, length, sym, arith}
+use Rattle.mencius_cluster.specs.State.{trace_of}
+use Rattle.mencius_model.specs.Trace.{sent_messages}
+use Rattle.mencius_trace.proofs.SentAcceptances.{proposed_here, unsaid_further, unsaid_whole}
+use Rattle.mencius_trace.proofs.votes.proposal.Goals as goal
 
 pub returns-in-Some-proposal_by : goal.returns-in-Some-proposal_by
 returns-in-Some-proposal_by c =

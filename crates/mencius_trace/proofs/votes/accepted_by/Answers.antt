@@ -1,6 +1,8 @@
-use Rattle.mencius_app.proofs.Words.{◌≤◌, length, sym, arith, trace_of, sent_messages}
-use Rattle.mencius_app.proofs.texts.SentAcceptances.{accepted_further, accepted_whole}
-use Rattle.mencius_app.proofs.votes.accepted_by.Goals as goal
+use Rattle.std.proofs.Common.{◌≤◌, length, sym, arith}
+use Rattle.mencius_cluster.specs.State.{trace_of}
+use Rattle.mencius_model.specs.Trace.{sent_messages}
+use Rattle.mencius_trace.proofs.SentAcceptances.{accepted_further, accepted_whole}
+use Rattle.mencius_trace.proofs.votes.accepted_by.Goals as goal
 
 pub loop-number-preserved : goal.loop-number-preserved
 loop-number-preserved c = record {
