@@ -1,11 +1,9 @@
-"""Links that open docs/page/mencius.html with a schedule, at one of its events.
+"""Links that open docs/page/mencius.html with a schedule, at one of its events, and browsers that open them.
 
 The page reads the schedule from the part of the link after `#`: the members, the number of events that have happened,
 and the events. The page's script schedule.js writes and reads the same format.
 
-    python3 -m doctest conformance/links.py
-
-tests the examples below. They follow from the format.
+`checks/comparisons` tests the examples below. They follow from the format.
 
 >>> import types
 >>> schedule = types.SimpleNamespace(members={"servers": 3, "beta": 0}, events=["submit 0 1.0 set a ", "deliver 0 1"])
@@ -25,7 +23,11 @@ True
 >>> link(schedule, 0).endswith("/docs/page/mencius.html#n=3&b=6&at=1&e=execute+0")
 True
 """
+import json
+import os
 import pathlib
+import subprocess
+import sys
 import urllib.parse
 
 import members
@@ -49,3 +51,34 @@ def link(schedule, event):
     """The link to the page of this folder, or None if it is too long."""
     end = fragment(schedule, event)
     return None if end is None else PAGE.as_uri() + end
+
+
+# ---- a browser
+
+SCREENS = ("BROWSER", "DISPLAY", "WAYLAND_DISPLAY")
+SECONDS = 5  # to start a browser
+OPEN = "import sys, webbrowser; sys.exit(not webbrowser.open(sys.argv[1]))"
+
+
+def has_browser():
+    """Whether a browser with a window may exist. A browser inside a terminal cannot run the page."""
+    return sys.platform in ("darwin", "win32") or any(map(os.environ.get, SCREENS))
+
+
+def open_in_browser(link, path):
+    """Opens the link in the browser of the user. Returns whether a browser was started.
+
+    The browser opens a small page at `path`, which leads to the link. It does not open the link itself, because
+    xdg-open removes the part of a link to a file from `#` on."""
+    if not has_browser():
+        return False
+    with open(path, "w", encoding="utf-8") as file:
+        file.write(f"<!doctype html>\n<script>location.replace({json.dumps(link)})</script>\n")
+    # With our own standard output, the browser would keep a pipe open that somebody reads to its end.
+    opener = subprocess.Popen([sys.executable, "-I", "-c", OPEN, pathlib.Path(path).absolute().as_uri()],
+                              stdin=subprocess.DEVNULL, stdout=subprocess.DEVNULL, stderr=subprocess.DEVNULL,
+                              start_new_session=True)
+    try:
+        return opener.wait(SECONDS) == 0
+    except subprocess.TimeoutExpired:
+        return True  # some browsers end only when the user closes them

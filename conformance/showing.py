@@ -4,11 +4,13 @@ import json
 import shlex
 
 import answers
+import links
 
 CONTEXT, SHORT_CONTEXT = 3, 12  # events before the difference whose trace is shown
 SHOWN_LINES = 40  # lines of a difference, and lines before it, at most
 EVENT_LINES = 8  # lines of one event before the difference, at most
 LONGEST_LINE = 400  # characters of a line, at most
+LONGEST_LINK = 1_000  # characters of a link that is shown without --open, at most
 
 HINT = {
     False: "The store gets the schedule on standard input, and must print a report, a trace or both on standard output"
@@ -122,8 +124,21 @@ def lines_of_short(finding, work, chosen):
     lines = [f"shortened to {count_of(short)} ({how_short(finding)}) in {chosen.out}{part}{what}:", *shown]
     if difference.is_failure():
         lines += [] if chosen.keep else [f"To repeat it: {shlex.join(chosen.store)} < {shlex.quote(chosen.out)}"]
-        lines += [HINT[chosen.keep]] * (not work.agreed)
-    return lines
+    if difference.is_failure() and not work.agreed:
+        return lines + [HINT[chosen.keep]]
+    return lines + (["To look at it: " + way_to_the_page(finding, chosen)] if short.events else [])
+
+
+def link_to(finding):
+    """The link that opens the page with the shortest schedule, at the event that differs, or None if it is too long."""
+    return links.link(finding.short, finding.short_difference.event)
+
+
+def way_to_the_page(finding, chosen):
+    link = link_to(finding)
+    if link and (chosen.open or len(link) <= LONGEST_LINK):
+        return link
+    return f"open {links.PAGE} in a browser, and drop {chosen.out} on it"
 
 
 def how_short(finding):
@@ -161,5 +176,5 @@ def as_json(work, choice, is_whole, path):
         result["difference"] = difference_as_json(finding.schedule, finding.difference)
         result["shortest"] = difference_as_json(finding.short, finding.short_difference)
         result.update(is_least=finding.is_least(), is_minimal=finding.is_minimal, is_steady=finding.is_steady,
-                      file=path)
+                      file=path, link=link_to(finding))
     return json.dumps(result)

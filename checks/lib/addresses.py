@@ -1,9 +1,13 @@
-"""Tries the schedule in the address: long ones, too long ones, links with a mistake, and drafts that are not in it."""
+"""Tries the schedule in the address: long ones, too long ones, links with a mistake, and drafts that are not in it. It
+also opens the link that conformance/compare gives to a browser."""
 import json
+import os
 import random
+import subprocess
 import time
 
-from page_user import URL, act, same, schedule
+from page_user import URL, act, cursor, same, schedule
+from shared import TOP, fail
 
 BAD_LINK = "#n=3&at=0&e=deliver+00+0"
 LETTERS = "abcdefghijklmnopqrstuvwxyzABCDEFGHIJKLMNOPQRSTUVWXYZ0123456789-_."
@@ -98,3 +102,35 @@ def share_a_link(browser):
     same(browser, "the link for others", "https://example.org/mencius.html" + hash_of(browser),
          browser.run("return document.getElementById('shared').value"))
     browser.click("#close-share")
+
+
+# A store that prints one wrong line, and a browser that writes its argument to a file.
+STORE = f"""#!/bin/sh
+{TOP}/conformance/store.py --trace - | sed 's/^event 1 /event 2 /'
+"""
+BROWSER = """#!/bin/sh
+printf %s "$1" > opened.part && mv opened.part opened
+"""
+
+
+def open_from_compare(browser, folder):
+    """The page must show the shortened schedule, right after the event that differs."""
+    folder = os.path.join(folder, "compared")
+    os.makedirs(folder)
+    for name, text in (("wrong", STORE), ("browser", BROWSER)):
+        with open(os.path.join(folder, name), "w", encoding="utf-8") as file:
+            file.write(text)
+        os.chmod(file.name, 0o755)
+    compare = os.path.join(TOP, "conformance", "compare")
+    subprocess.run([compare, "--open", "--shorten", "0", "--jobs", "2", "--", "./wrong"], cwd=folder, check=False,
+                   env={**os.environ, "BROWSER": f"{folder}/browser %s"}, stdout=subprocess.DEVNULL)
+    opened, end = os.path.join(folder, "opened"), time.time() + 30
+    while not os.path.exists(opened) and time.time() < end:
+        time.sleep(0.1)
+    if not os.path.exists(opened):
+        fail(f"{browser.name}: conformance/compare --open does not start the browser")
+    with open(opened, encoding="utf-8") as file:
+        browser.open(file.read())
+    same(browser, "the cursor of a link from conformance/compare", "2 of 2", cursor(browser))
+    with open(os.path.join(folder, "difference.json"), encoding="utf-8") as file:
+        same(browser, "the schedule of a link from conformance/compare", file.read(), schedule(browser))
