@@ -24,7 +24,7 @@ KEY_FAMILIES = (
     (("__proto__", "constructor"), ("toString", "valueOf"), ("hasOwnProperty",)),  # a JavaScript object inherits these
     NUMBERS,
     NOTHING,
-    (("a", "A"), ("b", "b.", ".b"), ("c_", "c-")),
+    (("a", "A"), ("b", "b.", ".b", "b.."), ("c_", "c-", ".", "..")),
     (long_words(LONGEST_KEY),),
 )
 TEXT_FAMILIES = (NUMBERS, NOTHING, (("x", "X", "xx"), ("y", "y.", "-y")), (long_words(LONGEST_TEXT),))
@@ -57,6 +57,10 @@ class Words:
         if client < 10 and self.dice.chance(15):
             client *= 11
         return f"{client}.{self.number + count}"
+
+    def next_identity(self, server, count):
+        """The identity of the command that a server probably submits after `count` others."""
+        return f"{self.client + server}.{self.number + count}"
 
     def operation(self, has_cas):
         key = self.dice.pick(self.keys)

@@ -194,8 +194,11 @@ class Drawing:
             self.submit(server)
             yield
 
+    def submitted_at(self, server):
+        return sum(home == server for home, _ in self.identities)
+
     def submit(self, server):
-        identity = self.words.identity(server, sum(home == server for home, _ in self.identities))
+        identity = self.words.identity(server, self.submitted_at(server))
         self.identities.append((server, identity))
         return self.attempt(f"submit {server} {identity} {self.words.operation(self.wish.has_cas)}")
 
@@ -333,6 +336,9 @@ class Drawing:
         private = self.dice.pick([message.number for message in self.messages if message.to is not None] or [number])
         lost = self.dice.pick(self.lost or [(number, server)])
         _, identity = self.dice.pick(self.identities or [(0, "1.0")])
+        if somebody == beyond and len(self.events) % 2:
+            # A bad server refuses the command, and a server of the cluster may still accept it later.
+            identity = self.words.next_identity(server, self.submitted_at(server))
         return self.dice.pick((
             f"submit {somebody} {identity} {self.words.operation(self.wish.has_cas)}",
             f"deliver {number} {somebody}",
