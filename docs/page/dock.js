@@ -83,7 +83,8 @@ function messageRow(now, { number, kind, from, instance, label, value }, server,
   const deliver = `deliver ${isAgain ? 'again ' : ''}${said}`;
   return el('li', { class: `${ownerOf(instance, now.schedule.servers)}${isAgain ? ' again' : ''}`, 'data-m': number },
     el('button', { class: 'message', 'data-do': `deliver ${number} ${server}`, title: deliver, 'aria-label': deliver },
-      el('b', {}, `${number} ${kind}`), ` ${label} `, el('i', {}, isAgain ? 'again' : `←${from}`)),
+      el('b', {}, `${number} ${kind}`), ` ${label} `, el('i', {}, isAgain ? 'again' : `←${from}`),
+      command ? el('small', {}, command) : null),
     isAgain ? null : loseButton(`lose ${number} ${server}`, `lose ${said}`));
 }
 

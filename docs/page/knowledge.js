@@ -44,7 +44,8 @@ function rowsOf({ schedule, trace }, server, instance) {
   const title = isNext ? 'the server executes this instance next' : null;
   const first = el('tr', { class: isNext ? 'next' : null, title },
     el('th', { scope: 'row', class: ownerOf(instance, schedule.servers) }, `i${instance}`),
-    cell('promised', '', written(promised ? `b${promised}` : null)), cell('vote', 'vote', ...voted, learned ? '' : command(vote?.value) ?? ''),
+    cell('promised', '', written(promised ? `b${promised}` : null)),
+    cell('vote', 'vote', ...voted, learned ? '' : command(vote?.value) ?? ''),
     cell('learned', 'learned-value', written(learned), command(learned)));
   const told = learned ? [] : attemptOf(slot);
   if (told.length === 0) return [first];

@@ -24,7 +24,8 @@ function showStep(number) {
 function stepText(step, number) {
   const following = DATA.lessons[number];
   const next = following ? `<button data-step="${number + 1}">next: ${following.title}</button>` : '';
-  const press = step.schedule.events.length ? '<p class="soft">Press <kbd>→</kbd> or ▶ to step through it.</p>' : '';
+  const hasEvents = step.schedule.events.length > 0;
+  const press = hasEvents ? '<p class="soft">Press <kbd>→</kbd> or ▶ to step through it.</p>' : '';
   return `<h2>${number}. ${step.title}</h2>${step.before}${press}${step.after}
     <div class="question"><p><b>Find out:</b> ${step.question}</p><p id="found" class="verdict" role="status"></p>
     <details><summary>answer</summary>${step.answer}</details></div>

@@ -156,9 +156,10 @@ function addAtRandom(number) {
     prefix = drawing.schedule;
     made = traceOf(prefix);
   }
-  if (!made) return;
-  insert(prefix.events.slice(first));
+  if (!made || !insert(prefix.events.slice(first))) return;
   page.drawing.after = asScenario(prefix);
+  const done = prefix.events.length - first;
+  if (done > 1) $('told').prepend(`${count(done, 'random event')} happened. The last one is `);
 }
 
 // ---- whether the proved code would refuse an event
@@ -205,7 +206,7 @@ function show() {
   fillHeads(schedule.servers);
   fillDock(page.now);
   greyButtons();
-  drawPicture(core, schedule, cursor);
+  drawPicture(core, page);
   markCursor(cursor);
   showBar();
   showTab();

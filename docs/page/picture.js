@@ -6,13 +6,22 @@
 // The number of events that are drawn at once, and the least number of them before and after the cursor.
 const DRAWN = 100;
 const AROUND = 20;
+// With a filter, the program draws at most this many events, and the page takes out the hidden ones.
+const MOST_FOLDED = 1_500;
 // Positions in a picture of `mencius draw`: its left and upper edge, the first lane, and the distance of the lanes.
 const LEFT = 296, TOP = 84, FIRST_LANE = 452, APART = 204, HALF_ROW = 12;
 const SMALLEST = 0.85;
 const EMPTY = 'Nothing has happened. Click “submit ..” below a server to submit a command, or press R for'
   + ' a random event.';
 
-const picture = { drawn: null, svg: null, rows: [], zoom: 1, room: 800, width: 800, height: 0 };
+const NOTHING_PASSES = 'No event passes the filter.';
+
+// `rows` are the rows of the events that are shown, each as { event, top, height, hidden }, from the top of the picture.
+// `hidden` events are hidden between this row and the former one.
+const picture = {
+  drawn: null, svg: null, rows: [], zoom: 1, room: 800, left: LEFT, right: 0, width: 800, height: 0, digits: 0,
+  servers: 0,
+};
 
 function el(tag, attributes = {}, ...children) {
   const made = document.createElement(tag);
@@ -24,35 +33,39 @@ function el(tag, attributes = {}, ...children) {
   return made;
 }
 
-// The first and the last of `size` events around a cursor.
-function partFor(cursor, length, size) {
+// The first and the last index of `size` items around a place in a list.
+function partFor(place, length, size) {
   if (length <= size) return [0, length - 1];
-  const first = Math.max(0, Math.min(cursor - Math.ceil(size / 2), length - size));
+  const first = Math.max(0, Math.min(place - Math.ceil(size / 2), length - size));
   return [first, first + size - 1];
 }
 
-function isInPart({ first, last, size }, cursor, length) {
-  const around = Math.min(AROUND, Math.floor(size / 4));
-  return first <= Math.max(0, cursor - around) && last >= Math.min(length, cursor + around) - 1;
+// Whether the drawn part contains the shown events around a cursor.
+function isInPart({ from, to, size }, list, cursor) {
+  const around = Math.min(AROUND, Math.floor(size / 4)), at = countBelow(list, cursor);
+  return from <= Math.max(0, at - around) && to >= Math.min(list.length, at + around) - 1;
 }
 
-// The program's picture of the part around a cursor. The part has fewer events if the picture would be too large.
-function drawnAround(core, schedule, cursor) {
-  const scenario = asScenario(schedule);
-  let answer, part, size = DRAWN;
+// The program's picture of the part around a cursor. `list` contains the events that are shown. The part has fewer
+// events if the picture would be too large.
+function drawnAround(core, schedule, list, cursor) {
+  const scenario = asScenario(schedule), at = countBelow(list, cursor);
+  let answer, part, ends, size = DRAWN;
   for (; size > 0; size = Math.floor(size / 4)) {
-    part = partFor(cursor, schedule.events.length, size);
-    answer = core.call(['draw', '--from', String(part[0]), '--to', String(Math.max(part[1], 0))], scenario);
+    part = partFor(at, list.length, size);
+    ends = part.map(index => list[index] ?? 0);
+    if (ends[1] - ends[0] > MOST_FOLDED && size > 1) continue;
+    answer = core.call(['draw', '--from', String(ends[0]), '--to', String(ends[1])], scenario);
     if (answer.status === 0) break;
   }
-  return { answer, drawn: { schedule, first: part[0], last: part[1], size } };
+  return { answer, drawn: { schedule, list, from: part[0], to: part[1], first: ends[0], size } };
 }
 
 // Draws the part around the cursor, unless it is already drawn. If the program refuses to draw it, shows the reason.
-function drawPicture(core, schedule, cursor) {
-  const drawn = picture.drawn, length = schedule.events.length;
-  if (drawn && drawn.schedule === schedule && isInPart(drawn, cursor, length)) return;
-  const made = drawnAround(core, schedule, cursor), { answer } = made;
+function drawPicture(core, { schedule, whole, cursor }) {
+  const { drawn } = picture, list = shownEvents(whole, cursor);
+  if (drawn && drawn.schedule === schedule && sameList(drawn.list, list) && isInPart(drawn, list, cursor)) return;
+  const made = drawnAround(core, schedule, list, cursor), { answer } = made;
   picture.drawn = made.drawn;
   if (answer.status !== 0) {
     Object.assign(picture, { svg: null, rows: [] });
@@ -63,30 +76,64 @@ function drawPicture(core, schedule, cursor) {
   // A template is not in the page yet, so these changes need no layout.
   const box = el('template');
   box.innerHTML = answer.printed;
-  cutDrawing(box.content.querySelector('svg'), schedule);
+  cutDrawing(box.content.querySelector('svg'), schedule, list);
+  makeRoomForNumbers(schedule.events.length);
   fitPicture(schedule.servers);
   markParts(picture.svg, cursor);
   $('drawing').replaceChildren(picture.svg);
-  if (length === 0) $('drawing').append(el('p', { id: 'empty' }, EMPTY));
-  fillRows(schedule, picture.drawn.first);
+  const isEmpty = schedule.events.length === 0;
+  if (list.length === 0) $('drawing').append(el('p', { id: 'empty' }, isEmpty ? EMPTY : NOTHING_PASSES));
+  fillRows(schedule);
 }
 
-// Removes everything except the lanes from a picture, and stores the positions of its rows.
-function cutDrawing(svg, schedule) {
+const sameList = (one, other) =>
+  one === other || (one.length === other.length && one.every((event, at) => event === other[at]));
+
+// Removes everything except the lanes from a picture, and hides the events that are not in `list`. Stores the positions
+// of the rows.
+function cutDrawing(svg, schedule, list) {
   for (const part of svg.querySelectorAll('.foot, .key, .place, .what, :scope > title')) part.remove();
-  const bottom = +/V(\d+)/.exec(svg.querySelector('.lane .line')?.getAttribute('d') ?? 'V80')[1];
-  const middleOf = event => +/ (\d+)\)/.exec(event.firstElementChild.getAttribute('transform'))[1];
-  const tops = [...svg.querySelectorAll('.event')].map(event => middleOf(event) - HALF_ROW - TOP);
-  picture.rows = tops.map((top, index) => ({ top, height: (tops[index + 1] ?? bottom - TOP - 2) - top }));
-  picture.width = +svg.getAttribute('width') - LEFT;
-  picture.height = Math.max(bottom - TOP, schedule.events.length === 0 ? 90 : 0);
-  svg.setAttribute('viewBox', `${LEFT} ${TOP} ${picture.width} ${picture.height}`);
+  const rows = fold(svg, rowsOfPicture(svg), list), bottom = bottomOf(svg);
+  layArrowsBelow(svg);
+  backLabels(svg);
+  picture.rows = rows;
+  placeViewBox(svg, schedule, bottom);
   svg.removeAttribute('role');
-  const band = document.createElementNS('http://www.w3.org/2000/svg', 'rect');
-  const shape = { id: 'band', x: LEFT, width: 9 * picture.width, height: 0 };
-  for (const [name, value] of Object.entries(shape)) band.setAttribute(name, value);
-  svg.querySelector('.paper').after(band);
+  svg.querySelector('.paper').after(svgEl('rect', { id: 'band', x: picture.left, width: 9 * picture.width, height: 0 }));
+  svg.append(svgEl('g', { id: 'over' }));
   picture.svg = svg;
+}
+
+const bottomOf = svg => +/V(\d+)/.exec(svg.querySelector('.lane .line')?.getAttribute('d') ?? 'V80')[1];
+
+function rowsOfPicture(svg) {
+  const events = [...svg.querySelectorAll('.event')], bottom = bottomOf(svg);
+  const middleOf = event => +/ (\d+)\)/.exec(event.firstElementChild.getAttribute('transform'))[1];
+  const tops = events.map(event => middleOf(event) - HALF_ROW - TOP);
+  return tops.map((top, index) =>
+    ({ event: +events[index].dataset.e, top, height: (tops[index + 1] ?? bottom - TOP - 2) - top, hidden: 0 }));
+}
+
+// The visible part of the drawing. It contains all labels. A long schedule is drawn in parts, so there the visible part
+// only grows.
+function placeViewBox(svg, { servers, events }, bottom) {
+  const isLong = events.length > DRAWN && picture.svg !== null && servers === picture.servers;
+  const [left, right] = endsOfLabels(svg), last = FIRST_LANE + (servers - 1) * APART;
+  picture.left = Math.min(isLong ? picture.left : LEFT, left);
+  picture.right = Math.max(isLong ? picture.right : last + APART, right);
+  picture.width = picture.right - picture.left;
+  picture.height = Math.max(bottom - TOP, picture.rows.length === 0 ? 90 : 0);
+  picture.servers = servers;
+  svg.setAttribute('viewBox', `${picture.left} ${TOP} ${picture.width} ${picture.height}`);
+}
+
+// The column of the events is wider if their numbers are long.
+function makeRoomForNumbers(length) {
+  const digits = Math.max(2, String(length).length);
+  if (digits === picture.digits) return;
+  picture.digits = digits;
+  $('stage').style.setProperty('--digits', digits);
+  measure();
 }
 
 // Stores the width that is available for a picture.
@@ -101,17 +148,18 @@ function fitPicture(servers) {
   picture.svg.setAttribute('height', picture.height * picture.zoom);
   const style = $('board').style;
   style.setProperty('--zoom', picture.zoom);
-  style.setProperty('--lead', `${(FIRST_LANE - LEFT - APART / 2) * picture.zoom}px`);
+  style.setProperty('--lead', `${(FIRST_LANE - picture.left - APART / 2) * picture.zoom}px`);
   style.setProperty('--apart', `${APART * picture.zoom}px`);
   style.setProperty('--servers', servers);
 }
 
-function fillRows(schedule, first) {
+function fillRows(schedule) {
   $('rows').style.height = `${picture.height * picture.zoom}px`;
-  $('rows').replaceChildren(...picture.rows.map(({ top, height }, index) => {
-    const event = first + index, text = schedule.events[event];
-    const style = `top:${top * picture.zoom}px;height:${height * picture.zoom}px`;
-    return el('li', { style, 'data-e': event, title: text }, el('b', {}, String(event)), ` ${text}`);
+  $('rows').replaceChildren(...picture.rows.flatMap(({ event, top, height, hidden }) => {
+    const text = schedule.events[event], style = `top:${top * picture.zoom}px;height:${height * picture.zoom}px`;
+    const row = el('li', { style, 'data-e': event, title: text }, el('b', {}, String(event)), ` ${text}`);
+    const gap = `top:${(top - GAP) * picture.zoom}px;height:${GAP * picture.zoom}px`;
+    return hidden > 0 ? [el('li', { class: 'gap', style: gap }, `${hidden} hidden`), row] : [row];
   }));
 }
 
@@ -123,20 +171,20 @@ function fillHeads(servers) {
   $('heads').replaceChildren(el('span', { class: 'corner' }, 'event'), ...heads);
 }
 
-// Makes everything pale that has not happened yet.
+// Makes everything pale that has not happened yet, and marks the last event.
 function markParts(box, cursor) {
-  for (const part of box.querySelectorAll('[data-e]')) part.classList.toggle('later', +part.dataset.e >= cursor);
+  for (const part of box.querySelectorAll('[data-e]')) {
+    part.classList.toggle('later', +part.dataset.e >= cursor);
+    part.classList.toggle('here', +part.dataset.e === cursor - 1);
+  }
 }
 
 // Marks the events before the cursor, and the last one of them.
 function markCursor(cursor) {
-  const here = picture.rows[cursor - 1 - picture.drawn.first];
+  const here = picture.rows.find(({ event }) => event === cursor - 1);
   markParts($('picture'), cursor);
-  const former = $('rows').querySelector('.here'), row = here && $('rows').children[cursor - 1 - picture.drawn.first];
-  former?.classList.remove('here');
-  former?.removeAttribute('aria-current');
-  row?.classList.add('here');
-  row?.setAttribute('aria-current', 'step');
+  $('rows').querySelector('[aria-current]')?.removeAttribute('aria-current');
+  $('rows').querySelector('.here')?.setAttribute('aria-current', 'step');
   const band = $('drawing').querySelector('#band');
   band?.setAttribute('y', TOP + (here?.top ?? 0));
   band?.setAttribute('height', here?.height ?? 0);
@@ -148,7 +196,7 @@ function markCursor(cursor) {
 function showLane(event) {
   const words = event.split(' '), server = +words[['deliver', 'lose'].includes(words[0]) ? 2 : 1];
   const stage = $('stage'), column = $('rows').offsetWidth, apart = APART * picture.zoom;
-  const middle = column + (FIRST_LANE - LEFT) * picture.zoom + server * apart;
+  const middle = column + (FIRST_LANE - picture.left) * picture.zoom + server * apart;
   const from = stage.scrollLeft + column, to = stage.scrollLeft + stage.clientWidth;
   const isSeen = middle - apart / 2 >= from && middle + apart / 2 <= to;
   if (!isSeen) stage.scrollLeft = middle - (stage.clientWidth + column) / 2;
@@ -170,8 +218,7 @@ function showRow(row) {
 // The event of the row at a point of the picture, or null.
 function eventAt(y) {
   const inside = (y - $('drawing').getBoundingClientRect().top) / picture.zoom;
-  const index = picture.rows.findIndex(({ top, height }) => inside >= top && inside < top + height);
-  return index < 0 ? null : picture.drawn.first + index;
+  return picture.rows.find(({ top, height }) => inside >= top && inside < top + height)?.event ?? null;
 }
 
 // Copies the explanation of marks and lines, which is at the foot of every picture, to the help.

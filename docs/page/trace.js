@@ -9,7 +9,7 @@ const NO_SLOT = { promised: 0, vote: null, tried: 0, promises: null, acceptances
 const lengthOfEvents = text => text.indexOf('\nserver 0 front ') + 1;
 
 class Trace {
-  // `former` is the trace of fewer events, or undefined. If the text goes on with its lines, only the new ones are read.
+  // `former` is the trace of fewer events, or undefined. If the text goes on with its lines, only new ones are read.
   constructor(text, former) {
     const start = former && text.startsWith(former.lines) ? former.lines.length : 0;
     if (start > 0) this.copy(former);
@@ -28,11 +28,12 @@ class Trace {
   begin() {
     this.servers = 0;
     this.events = [];   // { text, firstMessage, refusal, lines }
-    this.messages = []; // { number, kind, from, to, instance, label, value, says }; `to` is a server, or null for all servers
+    // { number, kind, from, to, instance, label, value, says }; `to` is a server, or null for all servers
+    this.messages = [];
     this.closing = [];  // { front, executed, next, waiting } for each server
     this.unheard = [];  // { number, to }
     this.lost = new Set(); // texts `NUMBER SERVER`
-    // For each server, a map from an instance to the server's knowledge of it. `fields` were changed last, by event `at`.
+    // For each server, a map from an instance to the server's knowledge of it. Event `at` changed `fields` last.
     this.slots = [];
     this.commands = new Map(); // from the identity of a command to its operation
     this.newest = null; // the identity that the last event added to `commands`, or null
@@ -88,8 +89,8 @@ const READERS = {
   sent(trace, words) {
     const [kind, from, instance] = [words[2], +words[4], +words[8]];
     const to = words[6] === 'all' ? null : +words[6];
-    const says = words.slice(2).join(' ');
-    trace.messages.push({ number: +words[1], kind, from, to, instance, label: labelOf(words), value: valueOf(words), says });
+    const [number, label, value, says] = [+words[1], labelOf(words), valueOf(words), words.slice(2).join(' ')];
+    trace.messages.push({ number, kind, from, to, instance, label, value, says });
     SENDERS[kind]?.(trace, from, instance, words);
   },
   promises(trace, words) {

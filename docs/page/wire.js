@@ -134,7 +134,7 @@ function resized() {
   measure();
   if (!picture.svg) return;
   fitPicture(page.schedule.servers);
-  fillRows(page.schedule, picture.drawn.first);
+  fillRows(page.schedule);
   markCursor(page.cursor);
 }
 

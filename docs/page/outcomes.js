@@ -1,0 +1,59 @@
+'use strict';
+// What became of each event, as the lines of a trace say. The strip, the filter and the cards show it.
+
+// An outcome is { act, server, message, spans, result, owner, isRepeated, isVain }. `spans` are the instances that the
+// event was about, as [first, end] without the end. `owner` is the owner of the instance that was learned or executed.
+const outcomes = new WeakMap();
+
+// The outcomes of all events of a trace. Traces share their first events, so only new events are read.
+function outcomesOf(trace) {
+  if (!outcomes.has(trace)) {
+    const heard = new Set();
+    outcomes.set(trace, trace.events.map(event => {
+      const isRepeated = heard.has(event.text);
+      if (!event.refusal && event.text.startsWith('deliver ')) heard.add(event.text);
+      if (!outcomes.has(event)) outcomes.set(event, outcomeOf(trace, event, isRepeated));
+      return outcomes.get(event);
+    }));
+  }
+  return outcomes.get(trace);
+}
+
+function outcomeOf(trace, event, isRepeated) {
+  const { act, server, message } = actOf(trace, event), result = resultOf(event, act);
+  const spans = message ? spansIn(message.says) : [];
+  for (const line of event.lines) spans.push(...spansIn(line));
+  const instance = /^(?:learned|executed) \d+ instance (\d+)/.exec(result.line)?.[1];
+  const owner = instance === undefined ? null : +instance % trace.servers;
+  const isVain = isRepeated || ['refused', 'ignored'].includes(result.name);
+  return { act, server, message, spans, result: result.name, owner, isRepeated, isVain };
+}
+
+// The act of an event, the server that it happens at, and the message that it delivers or loses, or null.
+function actOf({ messages }, { text }) {
+  const words = text.split(' '), [act] = words, isWay = act === 'deliver' || act === 'lose';
+  return { act, server: +words[isWay ? 2 : 1], message: isWay ? messages[+words[1]] ?? null : null };
+}
+
+// The most important result of an event, and its line. A no-op that was learned means that a command was not chosen.
+function resultOf({ refusal, lines }, act) {
+  if (refusal) return { name: 'refused', line: '' };
+  for (const name of ['executed', 'learned', 'ignored']) {
+    const line = lines.find(one => one.startsWith(name));
+    if (line) return { name: name === 'learned' && line.endsWith(' no-op') ? 'no-op' : name, line };
+  }
+  return { name: act === 'deliver' ? 'heard' : act, line: '' };
+}
+
+// The instances in a message or a line of a trace.
+function spansIn(text) {
+  const skip = / instances (\d+) to (\d+)/.exec(text);
+  if (skip) return [[+skip[1], +skip[2]]];
+  const one = / instance (\d+)/.exec(text);
+  return one ? [[+one[1], +one[1] + 1]] : [];
+}
+
+// Whether an event was about an instance. A Skip is only about the instances of its sender.
+function isAbout({ spans }, instance, servers) {
+  return spans.some(([first, end]) => first <= instance && instance < end && (instance - first) % servers === 0);
+}
