@@ -43,6 +43,8 @@ def count_the_renderings(browser):
     browser.click("#random20")
     same(browser, "the renderings of twenty random steps", 1, browser.run("return window.shown"))
     same(browser, "the cursor then", "140 of 140", cursor(browser))
+    told = browser.text("#told")
+    same(browser, f"whether the page announces twenty events: {told}", True, told.startswith("20 random events happened."))
     browser.click("#undo")
     same(browser, "the cursor after one undo", "120 of 120", cursor(browser))
 

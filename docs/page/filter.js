@@ -11,8 +11,8 @@ const isFiltered = () => filter.server !== null || filter.instance !== null || f
 
 function passes(outcome, servers) {
   const { server, instance, isBrief } = filter;
-  return (server === null || outcome.server === server) && (!isBrief || !outcome.isVain)
-    && (instance === null || isAbout(outcome, instance, servers));
+  const isOfServer = server === null || server >= servers || outcome.server === server;
+  return isOfServer && (!isBrief || !outcome.isVain) && (instance === null || isAbout(outcome, instance, servers));
 }
 
 // The numbers of the events that pass the filter, in order.

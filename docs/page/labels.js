@@ -1,6 +1,6 @@
 'use strict';
-// Makes the labels of a picture readable. The program draws each arrow over the labels of earlier events, and leaves too
-// little space for long labels at the left. So the page draws the arrows first, puts paper behind each label, and
+// Makes the labels of a picture readable. The program draws each arrow over the labels of earlier events, and leaves
+// too little space for long labels at the left. So the page draws the arrows first, puts paper behind each label, and
 // measures the labels to make the picture wider.
 
 // The sizes of the letters left and right of a mark, and the space between a label and the mark, as in the picture.
@@ -34,8 +34,7 @@ function layArrowsBelow(svg) {
   const arrows = [...svg.querySelectorAll('.way')], first = svg.querySelector('.event');
   if (arrows.length === 0) return;
   const hits = arrows.map(arrow => {
-    const { e, m } = arrow.dataset;
-    return svgEl('path', { class: 'hit', 'data-e': e, 'data-m': m, d: arrow.getAttribute('d') });
+    return svgEl('path', { class: 'hit', 'data-m': arrow.dataset.m, d: arrow.getAttribute('d') });
   });
   for (const arrow of arrows) arrow.querySelector('title')?.remove();
   first.before(svgEl('g', { class: 'ways' }, ...arrows), svgEl('g', { class: 'hits' }, ...hits));

@@ -29,7 +29,7 @@ function stepText(step, number) {
   return `<h2>${number}. ${step.title}</h2>${step.before}${press}${step.after}
     <div class="question"><p><b>Find out:</b> ${step.question}</p><p id="found" class="verdict" role="status"></p>
     <details><summary>answer</summary>${step.answer}</details></div>
-    <p class="acts"><button data-step="${number}">begin again</button>${next}</p>`;
+    <p class="acts"><button data-replay>replay</button><button data-step="${number}">begin again</button>${next}</p>`;
 }
 
 const isFound = (step, lines) => step.goals.every(goal => lines.some(line => ` ${line} `.includes(` ${goal} `)));

@@ -30,9 +30,10 @@ function outcomeOf(trace, event, isRepeated) {
 }
 
 // The act of an event, the server that it happens at, and the message that it delivers or loses, or null.
-function actOf({ messages }, { text }) {
+function actOf({ messages }, { text, firstMessage }) {
   const words = text.split(' '), [act] = words, isWay = act === 'deliver' || act === 'lose';
-  return { act, server: +words[isWay ? 2 : 1], message: isWay ? messages[+words[1]] ?? null : null };
+  const isSent = isWay && +words[1] < firstMessage;
+  return { act, server: +words[isWay ? 2 : 1], message: isSent ? messages[+words[1]] : null };
 }
 
 // The most important result of an event, and its line. A no-op that was learned means that a command was not chosen.

@@ -71,6 +71,8 @@ function become(schedule, cursor, isKept = true) {
 }
 
 function go(cursor) {
+  stopPlay();
+  closeCard();
   hideHint();
   page.cursor = Math.max(0, Math.min(page.schedule.events.length, cursor));
   show();
@@ -208,6 +210,8 @@ function show() {
   greyButtons();
   drawPicture(core, page);
   markCursor(cursor);
+  light(null);
+  showOverview(page);
   showBar();
   showTab();
   lookForAnswer(trace);

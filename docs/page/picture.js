@@ -4,7 +4,7 @@
 // parts.
 
 // The number of events that are drawn at once, and the least number of them before and after the cursor.
-const DRAWN = 100;
+const DRAWN = 80;
 const AROUND = 20;
 // With a filter, the program draws at most this many events, and the page takes out the hidden ones.
 const MOST_FOLDED = 1_500;
@@ -16,8 +16,8 @@ const EMPTY = 'Nothing has happened. Click “submit ..” below a server to sub
 
 const NOTHING_PASSES = 'No event passes the filter.';
 
-// `rows` are the rows of the events that are shown, each as { event, top, height, hidden }, from the top of the picture.
-// `hidden` events are hidden between this row and the former one.
+// `rows` are the rows of the events that are shown, as { event, top, height, hidden }. `hidden` is the number of hidden
+// events between this row and the former one.
 const picture = {
   drawn: null, svg: null, rows: [], zoom: 1, room: 800, left: LEFT, right: 0, width: 800, height: 0, digits: 0,
   servers: 0,
@@ -99,7 +99,8 @@ function cutDrawing(svg, schedule, list) {
   picture.rows = rows;
   placeViewBox(svg, schedule, bottom);
   svg.removeAttribute('role');
-  svg.querySelector('.paper').after(svgEl('rect', { id: 'band', x: picture.left, width: 9 * picture.width, height: 0 }));
+  const band = svgEl('rect', { id: 'band', x: picture.left, width: 9 * picture.width, height: 0 });
+  svg.querySelector('.paper').after(band);
   svg.append(svgEl('g', { id: 'over' }));
   picture.svg = svg;
 }

@@ -103,7 +103,7 @@ function wireBar() {
   const actions = {
     undo: () => undo(page.past, page.future), redo: () => undo(page.future, page.past),
     random: () => addAtRandom(1), random20: () => addAtRandom(20),
-    first: () => go(0), back: () => go(page.cursor - 1), next: () => go(page.cursor + 1), last: () => go(Infinity),
+    first: () => go(0), back: () => step(-1), next: () => step(1), last: () => go(Infinity),
     link: shareLink, json: saveSchedule, svg: savePicture, discard: discardDraft,
     copy: () => copy($('shared').value), 'close-share': () => $('share').close(),
     theme: changeTheme, side: showSide, help: () => $('keys').showModal(), 'close-keys': () => $('keys').close(),
@@ -120,11 +120,8 @@ function wireStage() {
     if (button) press(button);
   };
   $('dock').onsubmit = event => { event.preventDefault(); submit(event.target); };
-  $('dock').onmouseover = ({ target }) => light(target.closest('[data-m]')?.dataset.m);
-  $('dock').onfocusin = $('dock').onmouseover;
-  $('dock').onmouseleave = () => light(null);
   $('picture').onclick = event => {
-    const place = eventAt(event.clientY);
+    const place = clickMessage(event) ? null : eventAt(event.clientY);
     if (place !== null) go(place + 1);
   };
   new ResizeObserver(resized).observe($('stage'));
@@ -136,12 +133,8 @@ function resized() {
   fitPicture(page.schedule.servers);
   fillRows(page.schedule);
   markCursor(page.cursor);
-}
-
-// Marks a message in the picture, and removes the mark of all others.
-function light(number) {
-  for (const part of $('drawing').querySelectorAll('.lit')) part.classList.remove('lit');
-  if (number !== null && number !== undefined) document.getElementById(`m${number}`)?.classList.add('lit');
+  sizeMarks();
+  showPart();
 }
 
 // Makes the text of the editor the schedule of the page, if the program accepts it. Otherwise it stays a draft.
@@ -164,8 +157,8 @@ function wireTabs() {
     $(`tab-${page.tab}`).focus();
   };
   $('lesson').onclick = ({ target }) => {
-    const button = target.closest('[data-step]');
-    if (button) startStep(+button.dataset.step);
+    const button = target.closest('[data-step], [data-replay]');
+    if (button) button.dataset.step ? startStep(+button.dataset.step) : replayStep();
   };
   $('source').oninput = () => {
     draft.isOpen = true;
@@ -198,11 +191,10 @@ function wireTabs() {
 // ---- keys
 
 const PLAIN = {
-  ArrowLeft: () => go(page.cursor - 1), ArrowRight: () => go(page.cursor + 1),
-  ArrowUp: () => go(page.cursor - 1), ArrowDown: () => go(page.cursor + 1),
-  PageUp: () => go(page.cursor - 10), PageDown: () => go(page.cursor + 10), Home: () => go(0), End: () => go(Infinity),
+  ArrowLeft: () => step(-1), ArrowRight: () => step(1), ArrowUp: () => step(-1), ArrowDown: () => step(1),
+  PageUp: () => step(-10), PageDown: () => step(10), Home: () => go(0), End: () => go(Infinity),
   Delete: takeOut, Backspace: takeOut, r: () => addAtRandom(1), R: () => addAtRandom(20), p: showSide,
-  '?': () => $('keys').showModal(),
+  ' ': togglePlay, g: () => $('goto').select(), '?': () => $('keys').showModal(),
   d: () => pressFocused('.message'), l: () => pressFocused('.lose'),
 };
 
@@ -218,6 +210,7 @@ function keyed(event) {
   if ($('keys').open || $('share').open || event.altKey) return;
   const { target, key } = event, isField = target.tagName === 'INPUT' && target.type !== 'range';
   const isWriting = isField || ['TEXTAREA', 'SELECT'].includes(target.tagName);
+  if (key === 'Escape') closeCard();
   if (key === 'Escape' && dock.ask !== null) { OWN.ask('-1'); return; }
   if (isWriting) return;
   if (event.ctrlKey || event.metaKey) {
@@ -227,6 +220,7 @@ function keyed(event) {
     return;
   }
   if (SCROLLING.includes(key) && target.closest('pre')) return;
+  if (key === ' ' && target.closest('button, summary, [type=checkbox]')) return;
   if (/^[0-6]$/.test(key)) $('dock').querySelector(`section[data-server="${key}"] [data-do]`)?.focus();
   const action = PLAIN[key];
   if (action && !(target.id === 'slider' && key.startsWith('Arrow'))) { event.preventDefault(); action(); }
@@ -236,6 +230,9 @@ function wire() {
   wireBar();
   wireStage();
   wireTabs();
+  wireCards();
+  wireOverview();
+  wirePlay();
   wireFiles();
   fillKey(core);
   measure();
