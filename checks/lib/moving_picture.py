@@ -4,6 +4,7 @@ worked out by hand from the rules in docs/MODEL.md.
 Labels must be inside the picture, by measured boxes. Arrows must lie below the labels. Numbers of five digits must not
 run into texts."""
 import json
+import re
 
 from page_user import URL, act, cursor, same, schedule
 
@@ -190,6 +191,12 @@ def use_the_strip(browser):
       .map(path => path.getAttribute('d').match(/M/g).length).reduce((sum, one) => sum + one, 0)"""
     browser.wait("return document.querySelector('#strip .mark')", "the strip")
     same(browser, "the marks of the strip", 48, browser.run(marks))
+    browser.click("#tracks")
+    names = "return [...document.querySelectorAll('#strip-servers .track')].map(name => name.textContent)"
+    same(browser, "the tracks", [f"i{instance}" for instance in range(0, 24, 3)], browser.run(names))
+    line = browser.run("return document.querySelectorAll('#strip .track')[2].getAttribute('d')")
+    same(browser, "the ends of the track of instance 6", ["12.5", "17.5"], re.findall(r"[MH]([\d.]+)", line))
+    browser.click("#tracks")
     for key in ("g", "3", "0", "Enter"):
         browser.press(key)
     same(browser, "the cursor after going to event 30", "31 of 48", cursor(browser))

@@ -1,8 +1,9 @@
 'use strict';
 // What became of each event, as the lines of a trace say. The strip, the filter and the cards show it.
 
-// An outcome is { act, server, message, spans, result, owner, isRepeated, isVain }. `spans` are the instances that the
-// event was about, as [first, end] without the end. `owner` is the owner of the instance that was learned or executed.
+// An outcome is { act, server, message, spans, result, about, isVain }. `spans` are the instances that the event was
+// about, as [first, end] without the end. `about` is the instance that was learned or executed, or null. An event is in
+// vain if it was refused or ignored, or if it repeated a delivery.
 const outcomes = new WeakMap();
 
 // The outcomes of all events of a trace. Traces share their first events, so only new events are read.
@@ -23,10 +24,9 @@ function outcomeOf(trace, event, isRepeated) {
   const { act, server, message } = actOf(trace, event), result = resultOf(event, act);
   const spans = message ? spansIn(message.says) : [];
   for (const line of event.lines) spans.push(...spansIn(line));
-  const instance = /^(?:learned|executed) \d+ instance (\d+)/.exec(result.line)?.[1];
-  const owner = instance === undefined ? null : +instance % trace.servers;
+  const about = /^(?:learned|executed) \d+ instance (\d+)/.exec(result.line)?.[1];
   const isVain = isRepeated || ['refused', 'ignored'].includes(result.name);
-  return { act, server, message, spans, result: result.name, owner, isRepeated, isVain };
+  return { act, server, message, spans, result: result.name, about: about === undefined ? null : +about, isVain };
 }
 
 // The act of an event, the server that it happens at, and the message that it delivers or loses, or null.

@@ -15,22 +15,22 @@ const MARKS = {
 // The strip has at most this many marks of one kind in a lane, because more would lie on top of each other.
 const FINEST = 2_000;
 
-const strip = { trace: null, key: '', count: 0 };
+const strip = { trace: null, key: '', count: 0, hasTracks: false };
 
 const stripeTop = server => SPACE + server * (STRIPE + SPACE);
 
 // ---- the marks of the strip
 
-function classOf({ result, owner, isVain }) {
+function classOf({ result, about, isVain }, servers) {
   const kind = isVain ? 'vain' : result;
-  return owner === null || kind === 'no-op' || isVain ? kind : `${kind} owner${owner}`;
+  return about === null || kind === 'no-op' || isVain ? kind : `${kind} ${ownerOf(about, servers)}`;
 }
 
 // One path for each kind of mark. Hidden events get paths of their own.
 function pathsOf(trace, shown) {
   const paths = new Map(), isShown = new Set(shown), coarseness = Math.max(1, trace.events.length / FINEST);
   outcomesOf(trace).forEach((outcome, event) => {
-    const kind = classOf(outcome), name = `mark ${kind}${isShown.has(event) ? '' : ' off'}`;
+    const kind = classOf(outcome, trace.servers), name = `mark ${kind}${isShown.has(event) ? '' : ' off'}`;
     if (!paths.has(name)) paths.set(name, { d: [], last: [] });
     const { d, last } = paths.get(name), place = Math.floor(event / coarseness);
     if (last[outcome.server] === place) return;
@@ -48,20 +48,27 @@ function linesOfSuspicions(trace, height) {
 }
 
 function drawStrip(trace) {
-  const count = trace.events.length, height = stripeTop(trace.servers), shown = passing({ trace });
+  const count = trace.events.length, shown = passing({ trace }), lowest = stripeTop(trace.servers);
+  const tracks = strip.hasTracks ? drawTracks(trace, lowest) : { parts: [], names: [], height: 0 };
+  const height = lowest + tracks.height;
   const lanes = Array.from({ length: trace.servers }, (_, server) =>
     svgEl('rect', { class: 'stripe', x: 0, y: stripeTop(server), width: count, height: STRIPE }));
   const window = svgEl('rect', { id: 'strip-part', y: 0, height });
   const cursor = svgEl('path', { id: 'strip-cursor', d: `M0 0V${height}` });
   $('strip').replaceChildren(svgEl('svg', { viewBox: `0 0 ${count} ${height}`, preserveAspectRatio: 'none' },
-    ...lanes, window, linesOfSuspicions(trace, height), ...pathsOf(trace, shown), cursor));
+    ...lanes, window, linesOfSuspicions(trace, lowest), ...tracks.parts, ...pathsOf(trace, shown), cursor));
   $('strip').style.height = `${height}px`;
   $('strip').setAttribute('aria-label', stripInWords(trace));
-  const names = lanes.map((_, server) => el('li', { class: `owner${server}` }, String(server)));
-  $('strip-servers').replaceChildren(...names);
+  nameLanes(trace.servers, tracks.names);
   for (const option of $('only-server').options) option.hidden = option.value !== '' && +option.value >= trace.servers;
   Object.assign(strip, { trace, key: filter.found.key, count });
   sizeMarks();
+}
+
+function nameLanes(servers, instances) {
+  const lanes = Array.from({ length: servers }, (_, server) => el('li', { class: `owner${server}` }, String(server)));
+  const tracks = instances.map(instance => el('li', { class: `track ${ownerOf(instance, servers)}` }, `i${instance}`));
+  $('strip-servers').replaceChildren(...lanes, ...tracks);
 }
 
 // Few events have wide marks.
@@ -151,12 +158,18 @@ function wireOverview() {
   for (const id of ['only-server', 'only-instance', 'brief']) $(id).onchange = changeFilter;
   $('clear').onclick = clearFilter;
   $('goto').onchange = goToEvent;
+  $('tracks').onclick = () => {
+    strip.hasTracks = !strip.hasTracks;
+    $('tracks').setAttribute('aria-pressed', strip.hasTracks);
+    drawStrip(page.whole.trace);
+    showInStrip();
+  };
   const scrub = event => { if (event.buttons === 1) go(eventInStrip(event) + 1); };
   $('strip').onpointerdown = event => { $('strip').setPointerCapture(event.pointerId); scrub(event); };
   $('strip').onpointermove = event => {
     scrub(event);
     if (event.buttons === 0) openCard({ event: eventInStrip(event) }, event.clientX, event.clientY + 10);
   };
-  $('strip').onpointerleave = closeCard;
+  $('strip').onpointerleave = () => { if (!about.isPinned) closeCard(); };
   $('stage').addEventListener('scroll', () => later('part', 50, showPart));
 }
