@@ -52,7 +52,8 @@ def count_the_renderings(browser):
 def time_twenty_steps(browser):
     """The processor time of twenty random steps after 10,000 events, most of them repeated deliveries."""
     browser.open(URL + "#n=3&at=0&e=")
-    browser.run("for (let left = 20; left > 0; left -= 1) document.getElementById('random20').click()")
+    for _ in range(20):
+        browser.run("document.getElementById('random20').click()")
     browser.run(f"""const events = [...page.schedule.events], again = events.filter(event => event.startsWith('deliver '));
       while (events.length < {EVENTS}) events.push(again[events.length % again.length]);
       become({{ ...page.schedule, events }}, events.length)""")

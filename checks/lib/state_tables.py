@@ -41,8 +41,8 @@ def look_at_the_blocking_instance(browser):
     card = '#dock [data-server="1"] '
     rows = f"{card}tbody th"
     same(browser, "the instances of server 1", ["i0", "i1", "i4", "i7", "i10", "i13"], texts(browser, rows))
-    same(browser, "the command of the newest message on its way to server 0", "set a v8",
-         texts(browser, '#dock [data-server="0"] .inbox small')[-1])
+    same(browser, "the command of the newest message on its way to server 0", ["set a v8"],
+         texts(browser, '#dock [data-server="0"] .inbox small')[-1:])
     same(browser, "the instance that blocks server 1", ["i0"], texts(browser, f"{card}tr.next th"))
     browser.click(f'{card}[data-do="whole later1"]')
     wanted = ["i0", *[f"i{instance}" for instance in range(1, 26, 3)]]

@@ -49,6 +49,7 @@ function openCard(found, x, y, isPinned = false) {
   const parts = message === undefined ? eventCard(event) : messageCard(message, isPinned);
   box.replaceChildren(...parts.filter(part => part !== null));
   box.classList.toggle('pinned', isPinned);
+  box.setAttribute('role', isPinned ? 'dialog' : 'tooltip');
   box.hidden = false;
   const right = innerWidth - box.offsetWidth - 8, bottom = innerHeight - box.offsetHeight - 8;
   box.style.left = `${Math.max(8, Math.min(x + 14, right))}px`;
@@ -96,10 +97,10 @@ function receiversOf({ servers }, { to }) {
 
 // What became of a message at a server, as items of a list. Events after the cursor have not happened yet.
 function fatesOf(trace, message, server) {
-  const way = `${message.number} ${server}`, came = [];
+  const [heard, lost] = ['deliver', 'lose'].map(act => `${act} ${message.number} ${server}`), came = [];
   trace.events.forEach((event, place) => {
-    if (event.refusal || !(event.text === `deliver ${way}` || event.text === `lose ${way}`)) return;
-    const fate = event.text.startsWith('lose') ? 'lost' : came.length > 0 ? 'heard again' : 'heard';
+    if (event.refusal || !(event.text === heard || event.text === lost)) return;
+    const fate = event.text === lost ? 'lost' : came.length > 0 ? 'heard again' : 'heard';
     const result = fate === 'lost' ? '' : `: ${resultInWords(event, message)}`;
     const time = place < page.cursor ? 'event' : 'later, event';
     came.push({ place, text: `server ${server}, ${time} ${place}: ${fate}${result}` });
@@ -141,7 +142,25 @@ function clickMessage({ target, clientX, clientY }) {
   return true;
 }
 
+// Shows the card of the message that has the focus, with buttons.
+function explainFocused() {
+  const part = document.activeElement?.closest?.('[data-m]');
+  if (!part) return;
+  const { left, bottom } = part.getBoundingClientRect();
+  openCard({ message: +part.dataset.m }, left, bottom, true);
+}
+
+// A click in the picture delivers a message, or steps to the event of a row. A finger can't rest, so a touch also shows
+// the card.
+function clickPicture(event) {
+  if (clickMessage(event)) return;
+  const place = eventAt(event.clientY), found = pointedAt(event.target);
+  if (place !== null) go(place + 1);
+  if (found && event.pointerType === 'touch') openCard(found, event.clientX, event.clientY);
+}
+
 function wireCards() {
+  $('picture').onclick = clickPicture;
   $('picture').onmouseover = pointed;
   $('picture').onmouseleave = unpointed;
   $('dock').onmouseover = pointed;

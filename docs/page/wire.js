@@ -120,10 +120,6 @@ function wireStage() {
     if (button) press(button);
   };
   $('dock').onsubmit = event => { event.preventDefault(); submit(event.target); };
-  $('picture').onclick = event => {
-    const place = clickMessage(event) ? null : eventAt(event.clientY);
-    if (place !== null) go(place + 1);
-  };
   new ResizeObserver(resized).observe($('stage'));
 }
 
@@ -195,7 +191,7 @@ const PLAIN = {
   PageUp: () => step(-10), PageDown: () => step(10), Home: () => go(0), End: () => go(Infinity),
   Delete: takeOut, Backspace: takeOut, r: () => addAtRandom(1), R: () => addAtRandom(20), p: showSide,
   ' ': togglePlay, g: () => $('goto').select(), '?': () => $('keys').showModal(),
-  d: () => pressFocused('.message'), l: () => pressFocused('.lose'),
+  d: () => pressFocused('.message'), l: () => pressFocused('.lose'), e: explainFocused,
 };
 
 // In a text that has the focus, these keys scroll.
@@ -210,7 +206,7 @@ function keyed(event) {
   if ($('keys').open || $('share').open || event.altKey) return;
   const { target, key } = event, isField = target.tagName === 'INPUT' && target.type !== 'range';
   const isWriting = isField || ['TEXTAREA', 'SELECT'].includes(target.tagName);
-  if (key === 'Escape') closeCard();
+  if (key === 'Escape' && about.isPinned) { closeCard(); focusPicture(); }
   if (key === 'Escape' && dock.ask !== null) { OWN.ask('-1'); return; }
   if (isWriting) return;
   if (event.ctrlKey || event.metaKey) {
