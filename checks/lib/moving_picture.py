@@ -96,6 +96,13 @@ def point_at_a_message(browser):
         "message 0, Suggest", "Server 0 suggests 1.0 (set a x) for its instance 0.",
         "Server 0 sent it to all servers, at event 0.", "server 0: on its way", "server 1: on its way",
         "server 2, event 1: heard: sent 1 Accepted i0 b0", "Click the message to choose a receiver."], card)
+    browser.run(POINT % json.dumps("#drawing .hit[data-m='2']"))
+    same(browser, "the parts that are marked at an arrow", ["2 0", "m2", "over 2", "over 2"], browser.run(LIT))
+    act(browser, "before 0")
+    same(browser, "the card of message 0 before it is sent", [
+        "Server 0 sends it to all servers later, at event 0.",
+        "server 2, later, event 1: heard: sent 1 Accepted i0 b0"], card_at(browser, "#m0 text")[2:])
+    act(browser, "before 6")
     browser.run(POINT % json.dumps("#dock [data-server='1'] [data-m='4'] .message"))
     same(browser, "the parts that are marked from below a lane", ["4 1", "m4", "over 4"], browser.run(LIT))
     browser.run("document.getElementById('dock').dispatchEvent(new MouseEvent('mouseleave'))")

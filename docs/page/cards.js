@@ -29,6 +29,7 @@ function light(number) {
 }
 
 function pointed(event) {
+  widenArrows(picture.svg);
   const found = pointedAt(event.target), { clientX, clientY } = event;
   light(found?.message ?? null);
   if (about.isPinned) return;
@@ -66,10 +67,11 @@ function closeCard() {
 function messageCard(number, isPinned) {
   const { trace } = page.whole, message = trace.messages[number], place = sentByEvent(trace, number);
   const to = message.to === null ? 'all servers' : `server ${message.to}`;
+  const sent = place < page.cursor ? `sent it to ${to}, at` : `sends it to ${to} later, at`;
   return [
     el('h3', { class: ownerOf(message.instance, trace.servers) }, `message ${number}, ${message.kind}`),
     el('p', {}, meaningOf(trace, message)),
-    el('p', { class: 'soft' }, `Server ${message.from} sent it to ${to}, at event ${place}.`),
+    el('p', { class: 'soft' }, `Server ${message.from} ${sent} event ${place}.`),
     el('ul', {}, ...receiversOf(trace, message).flatMap(server => fatesOf(trace, message, server))),
     isPinned ? el('p', { class: 'acts' }, ...choicesFor(number)) : hintFor(number),
   ];
@@ -106,7 +108,7 @@ function fatesOf(trace, message, server) {
     came.push({ place, text: `server ${server}, ${time} ${place}: ${fate}${result}` });
   });
   const item = ({ place, text }) => el('li', { class: place >= page.cursor ? 'soft' : null }, text);
-  const isDue = !came.some(({ place }) => place < page.cursor);
+  const isDue = dueAt(message.number).includes(server);
   return [...isDue ? [el('li', {}, `server ${server}: on its way`)] : [], ...came.map(item)];
 }
 

@@ -29,15 +29,19 @@ function letterWidth() {
 
 const widthOfLabel = (label, kind) => label.textContent.length * LETTERS[kind] * letterWidth();
 
-// Moves the arrows below the labels and marks. Each gets a wide and invisible copy that is easy to point at.
+// Moves the arrows below the labels and marks.
 function layArrowsBelow(svg) {
-  const arrows = [...svg.querySelectorAll('.way')], first = svg.querySelector('.event');
-  if (arrows.length === 0) return;
-  const hits = arrows.map(arrow => {
-    return svgEl('path', { class: 'hit', 'data-m': arrow.dataset.m, d: arrow.getAttribute('d') });
-  });
-  for (const arrow of arrows) arrow.querySelector('title')?.remove();
-  first.before(svgEl('g', { class: 'ways' }, ...arrows), svgEl('g', { class: 'hits' }, ...hits));
+  const arrows = svg.querySelectorAll('.way');
+  if (arrows.length > 0) svg.querySelector('.event').before(svgEl('g', { class: 'ways' }, ...arrows));
+}
+
+// Gives each arrow a wide and invisible copy that is easy to point at, once the pointer is in the picture.
+function widenArrows(svg) {
+  const ways = svg?.querySelector('.ways');
+  if (!ways || ways.nextSibling.classList.contains('hits')) return;
+  const hits = [...ways.children].map(arrow =>
+    svgEl('path', { class: 'hit', 'data-m': arrow.dataset.m, d: arrow.getAttribute('d') }));
+  ways.after(svgEl('g', { class: 'hits' }, ...hits));
 }
 
 // Puts paper behind each label that has no box of its own.

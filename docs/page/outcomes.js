@@ -1,8 +1,8 @@
 'use strict';
 // What became of each event, as the lines of a trace say. The strip, the filter and the cards show it.
 
-// An outcome is { act, server, message, spans, result, about, isVain }. `spans` are the instances that the event was
-// about, as [first, end] without the end. `about` is the instance that was learned or executed, or null. An event is in
+// An outcome is { act, server, message, spans, result, about, isVain }. `spans` are the instances that the event
+// mentions, as [first, end] without the end. `about` are the instances that were learned or executed. An event is in
 // vain if it was refused or ignored, or if it repeated a delivery.
 const outcomes = new WeakMap();
 
@@ -21,12 +21,10 @@ function outcomesOf(trace) {
 }
 
 function outcomeOf(trace, event, isRepeated) {
-  const { act, server, message } = actOf(trace, event), result = resultOf(event, act);
+  const { act, server, message } = actOf(trace, event), { result, about } = resultOf(event, act);
   const spans = message ? spansIn(message.says) : [];
   for (const line of event.lines) spans.push(...spansIn(line));
-  const about = /^(?:learned|executed) \d+ instance (\d+)/.exec(result.line)?.[1];
-  const isVain = isRepeated || ['refused', 'ignored'].includes(result.name);
-  return { act, server, message, spans, result: result.name, about: about === undefined ? null : +about, isVain };
+  return { act, server, message, spans, result, about, isVain: isRepeated || ['refused', 'ignored'].includes(result) };
 }
 
 // The act of an event, the server that it happens at, and the message that it delivers or loses, or null.
@@ -36,14 +34,17 @@ function actOf({ messages }, { text, firstMessage }) {
   return { act, server: +words[isWay ? 2 : 1], message: isSent ? messages[+words[1]] : null };
 }
 
-// The most important result of an event, and its line. A no-op that was learned means that a command was not chosen.
+// The most important result of an event, and the instances that it is about. If an event learned several instances, the
+// first one decides whether the result is a no-op.
 function resultOf({ refusal, lines }, act) {
-  if (refusal) return { name: 'refused', line: '' };
-  for (const name of ['executed', 'learned', 'ignored']) {
-    const line = lines.find(one => one.startsWith(name));
-    if (line) return { name: name === 'learned' && line.endsWith(' no-op') ? 'no-op' : name, line };
+  if (refusal) return { result: 'refused', about: [] };
+  if (lines.some(line => line.startsWith('ignored '))) return { result: 'ignored', about: [] };
+  for (const result of ['executed', 'learned']) {
+    const found = lines.filter(line => line.startsWith(`${result} `)), about = found.map(line => +line.split(' ')[3]);
+    const isNoOp = result === 'learned' && found[0]?.endsWith(' no-op');
+    if (about.length > 0) return { result: isNoOp ? 'no-op' : result, about };
   }
-  return { name: act === 'deliver' ? 'heard' : act, line: '' };
+  return { result: act === 'deliver' ? 'heard' : act, about: [] };
 }
 
 // The instances in a message or a line of a trace.

@@ -23,7 +23,7 @@ const stripeTop = server => SPACE + server * (STRIPE + SPACE);
 
 function classOf({ result, about, isVain }, servers) {
   const kind = isVain ? 'vain' : result;
-  return about === null || kind === 'no-op' || isVain ? kind : `${kind} ${ownerOf(about, servers)}`;
+  return about.length === 0 || kind === 'no-op' || isVain ? kind : `${kind} ${ownerOf(about[0], servers)}`;
 }
 
 // One path for each kind of mark. Hidden events get paths of their own.

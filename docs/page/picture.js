@@ -174,10 +174,9 @@ function fillHeads(servers) {
 
 // Makes everything pale that has not happened yet, and marks the last event.
 function markParts(box, cursor) {
-  for (const part of box.querySelectorAll('[data-e]')) {
-    part.classList.toggle('later', +part.dataset.e >= cursor);
-    part.classList.toggle('here', +part.dataset.e === cursor - 1);
-  }
+  for (const part of box.querySelectorAll('[data-e]')) part.classList.toggle('later', +part.dataset.e >= cursor);
+  for (const part of box.querySelectorAll('.here')) part.classList.remove('here');
+  for (const part of box.querySelectorAll(`[data-e="${cursor - 1}"]`)) part.classList.add('here');
 }
 
 // Marks the events before the cursor, and the last one of them.

@@ -40,7 +40,7 @@ function drawTracks(trace, top) {
 
 // The marks of a track, as pairs of a kind and its places. A suspicion has the same mark in the track of each instance.
 function marksOfTrack(all, instance, places) {
-  const isMark = (kind, { result, about }) => result === kind && (kind === 'suspect' || about === instance);
+  const isMark = (kind, { result, about }) => result === kind && (kind === 'suspect' || about.includes(instance));
   return Object.keys(TRACK_MARKS).map(kind => [kind, places.filter(place => isMark(kind, all[place]))]);
 }
 
