@@ -56,7 +56,7 @@ function answered(text, answer) {
 
 // ---- files
 
-// Opens a schedule, a run, the journal of a run, or a log.
+// Opens a schedule, a run, the journal of a run, a log, or a trace or a report of a store.
 async function openFile(file) {
   if (file.size > LONGEST_FILE) {
     say(`${file.name} is too long for the page. Judge it with mencius judge.`);
@@ -64,6 +64,7 @@ async function openFile(file) {
   }
   const text = await file.text();
   if (text.trimStart().startsWith('{')) openScenario(file.name, text);
+  else if (isOutput(text) || page.tab === 'compare') openOutput(file.name, text);
   else openLog(file.name, text);
 }
 

@@ -7,7 +7,7 @@ const DATA = JSON.parse($('data').textContent);
 const COMMON = Object.keys(DATA.members).filter(name => name !== 'servers');
 for (const [name, scenario] of Object.entries(DATA.examples)) DATA.examples[name] = scheduleOf(scenario);
 for (const step of DATA.lessons) step.schedule = scheduleOf(step.schedule);
-const TABS = ['lesson', 'editor', 'judge', 'texts'];
+const TABS = ['lesson', 'editor', 'compare', 'judge', 'texts'];
 const UNDONE = 500;
 
 let core;
@@ -248,6 +248,7 @@ function showTab() {
     $('source').value = asFile(schedule);
     readEditor(core);
   }
+  if (tab === 'compare') showComparison();
   if (tab === 'texts') {
     $('report').textContent = now.reportText;
     $('trace').textContent = now.text;

@@ -230,6 +230,7 @@ function wire() {
   wireOverview();
   wirePlay();
   wireFiles();
+  wireComparison();
   fillKey(core);
   measure();
   addEventListener('keydown', keyed);
