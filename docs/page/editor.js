@@ -113,6 +113,7 @@ function judgeLog(core) {
     return;
   }
   showVerdict('judgement', 'judging ..');
+  showJudging();
   for (const id of ['quoted', 'in-words']) $(id).textContent = '';
   mark($('log'), null);
   judgeInWorker(text, answer => showJudgement(text, answer));
@@ -127,6 +128,7 @@ function showJudgement(text, answer) {
   showVerdict('judgement', said, answer.status !== 0);
   $('quoted').textContent = quoted.join('\n');
   $('in-words').textContent = isBroken ? sentence : verdict ? keptInWords(words) : badLineInWords(said);
+  fillTimeline(text, answer);
 }
 
 // Explains a mistake in a line of a log. For other faults, the text is empty.

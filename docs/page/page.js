@@ -259,6 +259,7 @@ function showTab() {
 
 function setTab(tab) {
   page.tab = tab;
+  showView(tab);
   for (const name of TABS) {
     $(name).hidden = name !== tab;
     $(`tab-${name}`).setAttribute('aria-selected', name === tab);

@@ -231,6 +231,7 @@ function wire() {
   wirePlay();
   wireFiles();
   wireComparison();
+  wireTimeline();
   fillKey(core);
   measure();
   addEventListener('keydown', keyed);

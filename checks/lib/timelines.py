@@ -1,0 +1,193 @@
+"""Looks at logs as timelines. The bars, marks and lanes must be where the lines of the log put them, and the lines that
+the verdict quotes must be marked."""
+import json
+
+from files import drop, read
+from page_user import URL, cursor, same
+from readable import LEAST_CONTRAST, media
+
+COMMANDS, CLIENTS = 2_000, 4
+# More parts than this in the page would make it slow. The rows in sight need fewer than half of them.
+MOST_PARTS = 1_000
+# The lines that the verdict on examples/logs/right_reply.log quotes. See the table of RightReply in docs/FORMATS.md: the
+# submissions of the command and of the last change before it, the execution, and the first reply.
+QUOTED = [2, 3, 5, 6]
+HOSTILE = "# <img src=x>\nsubmit 1.0 set a x\nexecute 0 1.0\nreply 1.0 none\n<img src=x>\n"
+# The boxes of the parts that the selector finds, each with its text.
+BOXES = """const box = part => { const { left, right, top, bottom } = part.getBoundingClientRect();
+    return { left, right, top, bottom, text: part.textContent.trim(), id: part.dataset.id ?? null }; };
+  const boxes = selector => [...document.querySelectorAll(selector)].map(box);"""
+# Scrolls through the timeline, and collects the bars of all windows.
+ALL_BARS = """const stage = document.getElementById('log-stage'), seen = new Set(), rows = document.getElementById('log-rows');
+  let most = 0, top = -1;
+  for (stage.scrollTop = 0; stage.scrollTop > top; stage.scrollTop = rows.lastChild.offsetTop) {
+    top = stage.scrollTop;
+    stage.onscroll();
+    for (const bar of document.querySelectorAll('#lanes .bar')) seen.add(bar.textContent);
+    most = Math.max(most, document.querySelectorAll('#timeline *').length);
+  }
+  return [[...seen], most]"""
+# The least contrast of the texts of the timeline with what is behind them, as [count, contrast].
+CONTRASTS = """const parts = colour => colour.match(/[\\d.]+/g).map(Number);
+  const light = colour => colour.slice(0, 3).map(one => one / 255).map(one =>
+    (one <= 0.04045 ? one / 12.92 : ((one + 0.055) / 1.055) ** 2.4))
+    .reduce((sum, one, at) => sum + [0.2126, 0.7152, 0.0722][at] * one, 0);
+  const under = part => { const [r, g, b, a = 1] = parts(getComputedStyle(part).backgroundColor);
+    return a === 1 ? [r, g, b] : under(part.parentElement); };
+  const ratio = part => { const [a, b] = [light(parts(getComputedStyle(part).color)), light(under(part))]
+    .sort((x, y) => y - x); return (a + 0.05) / (b + 0.05); };
+  const texts = [...document.querySelectorAll('#log-head p, #quoted-lines button, #lane-heads > *, #log-rows li, #log-rows b,'
+    + '#lanes .bar span, #lanes .mark, #command-card, #difference, #pair td, #pair b, #sides li, .way, #ways p')]
+    .filter(part => part.textContent.trim() && part.offsetWidth > 0);
+  return [texts.length, Math.min(...texts.map(ratio))]"""
+
+
+def look(browser):
+    browser.open(URL)
+    look_at_bars(browser)
+    look_at_quoted_lines(browser)
+    look_at_keys(browser)
+    look_at_other_logs(browser)
+    browser.click("#tab-lesson")
+
+
+def drop_log(browser, name, text, verdict):
+    drop(browser, name, text)
+    browser.wait("return document.getElementById('timeline-verdict').textContent.startsWith("
+                 f"{json.dumps(verdict)})", verdict)
+
+
+def inside(one, other, sides):
+    """Whether a box is within another one, but for a pixel, from its first side to its second."""
+    first, second = sides
+    return other[first] - 3 <= one[first] and one[second] <= other[second] + 3
+
+
+def look_at_bars(browser):
+    """A bar goes from the row of the submission to the row of the reply, in the lane of its client."""
+    log = read("logs", "right_reply.log")
+    drop_log(browser, "right_reply.log", log, "violation 6 RightReply ")
+    bars, marks, rows, heads = browser.run(
+        BOXES + "return ['#lanes .bar', '#lanes .mark', '#log-rows li', '#lane-heads b'].map(boxes)")
+    lines = log.splitlines()
+    same(browser, "the rows of the timeline", [f"{at} {line}" for at, line in enumerate(lines, 1)],
+         [row["text"].replace("quoted: ", "") for row in rows])
+    submitted = {line.split(" ")[1]: line for line in lines if line.startswith("submit ")}
+    wanted = [f"{name} {line.split(' ', 2)[2]}" for name, line in submitted.items()]
+    same(browser, "the bars", wanted, [bar["text"] for bar in bars])
+    lanes = {head["text"]: head for head in heads}
+    same(browser, "the lanes", ["client 1", "client 2", "server 0"], list(lanes))
+    first, last = {"1.0": 1, "2.0": 2}, {"1.0": 3, "2.0": 5}
+    for bar in bars:
+        span = {"top": rows[first[bar["id"]]]["top"], "bottom": rows[last[bar["id"]]]["bottom"]}
+        is_right = inside(bar, span, ("top", "bottom")) and bar["bottom"] - bar["top"] > span["bottom"] - span["top"] - 8
+        same(browser, f"whether the bar {bar['id']} goes from its submission to its reply", True, is_right)
+        lane = lanes["client " + bar["id"].split(".")[0]]
+        same(browser, f"whether the bar {bar['id']} is in its lane", True, inside(bar, lane, ("left", "right")))
+    executed = [(at, line.split(" ")) for at, line in enumerate(lines) if line.startswith("execute ")]
+    same(browser, "the executions", [words[2] for _, words in executed], [mark["text"] for mark in marks])
+    for (at, words), mark in zip(executed, marks):
+        is_right = inside(mark, rows[at], ("top", "bottom")) and inside(mark, lanes["server " + words[1]], ("left", "right"))
+        same(browser, f"whether the execution {words[2]} is in its row and its lane", True, is_right)
+
+
+def look_at_quoted_lines(browser):
+    numbers = "return [...document.querySelectorAll('#log-rows .quoted-row b')].map(part => Number(part.textContent))"
+    same(browser, "the rows of the quoted lines", QUOTED, browser.run(numbers))
+    lines = read("logs", "right_reply.log").splitlines()
+    buttons = browser.run("return [...document.querySelectorAll('#quoted-lines button')].map(part => part.textContent)")
+    same(browser, "the buttons of the quoted lines", [f"line {at}: {lines[at - 1]}" for at in QUOTED], buttons)
+    same(browser, "the verdict in words", browser.text("#in-words"), browser.text("#timeline-words"))
+    # Line 2 is in the bar of 1.0, lines 3 and 6 in that of 2.0, and line 5 is the execution of 2.0.
+    points, boxes, rows = browser.run(BOXES + """const chain = box(document.getElementById('chain'));
+      const points = document.querySelector('#chain polyline').getAttribute('points').split(' ')
+        .map(pair => pair.split(',').map(Number)).map(([x, y]) => [chain.left + x, chain.top + y]);
+      return [points, boxes('#lanes .quoted'), boxes('#log-rows .quoted-row')]""")
+    found = [[box["text"] for box in boxes if box["left"] < x < box["right"] and box["top"] < y < box["bottom"]]
+             for x, y in points]
+    same(browser, "the marks that the chain connects", [["1.0 set a x"], ["2.0 set a y"], ["2.0"], ["2.0 set a y"]], found)
+    inside_rows = [row["top"] < y < row["bottom"] for row, (_, y) in zip(rows, points)]
+    same(browser, "whether the chain is at the quoted rows", [True] * len(QUOTED), inside_rows)
+
+
+def look_at_keys(browser):
+    """The keys do not step the schedule, which is out of sight. A focused bar says what the log shows of its command."""
+    before = cursor(browser)
+    browser.run("document.querySelector('#lanes [data-bar=\"2.0\"]').focus()")
+    same(browser, "the story of the focused command",
+         "2.0 set a y: submitted in line 3; executed by server 0 in line 5; reply none in line 6",
+         browser.text("#command-card"))
+    for key in ("Right", "Down", "Home", "Delete", "r"):
+        browser.press(key)
+    same(browser, "the cursor of the schedule after keys in the timeline", before, cursor(browser))
+
+
+def look_at_other_logs(browser):
+    drop_log(browser, "kept.log", read("logs", "kept.log"), "ok ")
+    same(browser, "the quoted rows of a log without violation", 0,
+         browser.run("return document.querySelectorAll('.quoted-row, #chain [points*=\",\"]').length"))
+    drop_log(browser, "hostile.log", HOSTILE, "line 5: ")
+    same(browser, "the elements of a hostile log", 0, browser.run("return document.images.length"))
+    same(browser, "the row of the bad line", ["5"],
+         browser.run("return [...document.querySelectorAll('.quoted-row b')].map(part => part.textContent)"))
+
+
+def many_commands():
+    """Each client always waits for one reply. Server 0 executes the commands in order. Server 1 begins with the second."""
+    lines = []
+    for number in range(COMMANDS // CLIENTS):
+        names = [f"{client}.{number}" for client in range(CLIENTS)]
+        lines += [f"submit {name} set k{name} v" for name in names] + [f"execute 0 {name}" for name in names]
+        lines += [f"reply {name} none" for name in names]
+    return "\n".join([*lines, "execute 1 1.0", ""])
+
+
+def look_at_a_long_log(browser):
+    """2,000 commands have 2,000 bars, of which few are in the page at once. A button leads to a quoted line."""
+    log = many_commands()
+    drop_log(browser, "many.log", log, "violation ")
+    lines = log.splitlines()
+    bars, most = browser.run(ALL_BARS)
+    wanted = [line.removeprefix("submit ") for line in lines if line.startswith("submit ")]
+    same(browser, "whether each of 2,000 commands has a bar", True, sorted(bars) == sorted(wanted))
+    same(browser, f"whether the page has less than {MOST_PARTS} parts of a long timeline: {most}", True, most < MOST_PARTS)
+    # Line 5 is the execution of the first command, which server 1 lacks.
+    browser.run("document.querySelector('#quoted-lines [data-line=\"5\"]').click()")
+    same(browser, "the quoted row in sight", ["5 execute 0 0.0"], in_sight(browser))
+    browser.run(f"document.querySelector('#quoted-lines [data-line=\"{len(lines)}\"]').click()")
+    same(browser, "the last row in sight", [f"{len(lines)} execute 1 1.0"], in_sight(browser))
+    look_at_what_is_left_out(browser)
+    browser.click("#tab-lesson")
+
+
+def in_sight(browser):
+    return browser.run(BOXES + """const stage = box(document.getElementById('log-stage'));
+      return boxes('.quoted-row').filter(row => row.top >= stage.top && row.bottom <= stage.bottom + 3)
+        .map(row => row.text.replace('quoted: ', ''))""")
+
+
+def look_at_what_is_left_out(browser):
+    """Of a longer log, the parts around the quoted lines are shown. The note counts the lines that are left out. A row is
+    in their place, so the timeline has one row more than it shows lines."""
+    comments = 30_000
+    log = "submit 1.0 set a x\n" + "# x\n" * comments + "reply 1.0 none\nreply 1.0 =x\n"
+    total = comments + 3
+    drop_log(browser, "comments.log", log, f"violation {total} OneReply ")
+    rows = browser.run("""return document.getElementById('log-body').offsetHeight
+      / document.querySelector('#log-rows li').offsetHeight""")
+    same(browser, "the note on lines that are left out", f"{total - (rows - 1):.0f} of {total} lines are left out.",
+         browser.text("#left-out").split(". ")[0] + ".")
+    same(browser, "the quoted rows at the end", [f"{total - 1} reply 1.0 none", f"{total} reply 1.0 =x"], in_sight(browser))
+
+
+def look_at_contrasts(browser):
+    for scheme in ("light", "dark"):
+        with media(browser, "prefers-color-scheme", scheme):
+            browser.open(URL)
+            browser.click("#tab-judge")
+            browser.choose("#logs", "right_reply")
+            count, least = browser.run(CONTRASTS)
+            same(browser, f"whether many texts of the timeline are measured ({scheme})", True, count > 15)
+            same(browser, f"whether the least contrast of the timeline, {least:.2f}, is enough ({scheme})", True,
+                 least >= LEAST_CONTRAST)
+    browser.click("#tab-lesson")
