@@ -9,7 +9,7 @@ from readable import LEAST_CONTRAST, media
 COMMANDS, CLIENTS = 2_000, 4
 # More parts than this in the page would make it slow. The rows in sight need fewer than half of them.
 MOST_PARTS = 1_000
-# The lines that the verdict on examples/logs/right_reply.log quotes. See the table of RightReply in docs/FORMATS.md: the
+# The lines that the verdict on examples/logs/right_reply.log quotes. docs/FORMATS.md lists them for RightReply: the
 # submissions of the command and of the last change before it, the execution, and the first reply.
 QUOTED = [2, 3, 5, 6]
 HOSTILE = "# <img src=x>\nsubmit 1.0 set a x\nexecute 0 1.0\nreply 1.0 none\n<img src=x>\n"
@@ -18,7 +18,7 @@ BOXES = """const box = part => { const { left, right, top, bottom } = part.getBo
     return { left, right, top, bottom, text: part.textContent.trim(), id: part.dataset.id ?? null }; };
   const boxes = selector => [...document.querySelectorAll(selector)].map(box);"""
 # Scrolls through the timeline, and collects the bars of all windows.
-ALL_BARS = """const stage = document.getElementById('log-stage'), seen = new Set(), rows = document.getElementById('log-rows');
+ALL_BARS = """const [stage, rows] = ['log-stage', 'log-rows'].map(id => document.getElementById(id)), seen = new Set();
   let most = 0, top = -1;
   for (stage.scrollTop = 0; stage.scrollTop > top; stage.scrollTop = rows.lastChild.offsetTop) {
     top = stage.scrollTop;
@@ -36,8 +36,8 @@ CONTRASTS = """const parts = colour => colour.match(/[\\d.]+/g).map(Number);
     return a === 1 ? [r, g, b] : under(part.parentElement); };
   const ratio = part => { const [a, b] = [light(parts(getComputedStyle(part).color)), light(under(part))]
     .sort((x, y) => y - x); return (a + 0.05) / (b + 0.05); };
-  const texts = [...document.querySelectorAll('#log-head p, #quoted-lines button, #lane-heads > *, #log-rows li, #log-rows b,'
-    + '#lanes .bar span, #lanes .mark, #command-card, #difference, #pair td, #pair b, #sides li, .way, #ways p')]
+  const texts = [...document.querySelectorAll('#log-head p, #quoted-lines button, #lane-heads > *, #log-rows li,'
+    + '#log-rows b, #lanes .bar span, #lanes .mark, #command-card, #difference, #pair td, #pair b, #sides li, .way, #ways p')]
     .filter(part => part.textContent.trim() && part.offsetWidth > 0);
   return [texts.length, Math.min(...texts.map(ratio))]"""
 
@@ -80,15 +80,17 @@ def look_at_bars(browser):
     first, last = {"1.0": 1, "2.0": 2}, {"1.0": 3, "2.0": 5}
     for bar in bars:
         span = {"top": rows[first[bar["id"]]]["top"], "bottom": rows[last[bar["id"]]]["bottom"]}
-        is_right = inside(bar, span, ("top", "bottom")) and bar["bottom"] - bar["top"] > span["bottom"] - span["top"] - 8
-        same(browser, f"whether the bar {bar['id']} goes from its submission to its reply", True, is_right)
+        is_whole = bar["bottom"] - bar["top"] > span["bottom"] - span["top"] - 8
+        same(browser, f"whether the bar {bar['id']} goes from its submission to its reply", True,
+             inside(bar, span, ("top", "bottom")) and is_whole)
         lane = lanes["client " + bar["id"].split(".")[0]]
         same(browser, f"whether the bar {bar['id']} is in its lane", True, inside(bar, lane, ("left", "right")))
     executed = [(at, line.split(" ")) for at, line in enumerate(lines) if line.startswith("execute ")]
     same(browser, "the executions", [words[2] for _, words in executed], [mark["text"] for mark in marks])
     for (at, words), mark in zip(executed, marks):
-        is_right = inside(mark, rows[at], ("top", "bottom")) and inside(mark, lanes["server " + words[1]], ("left", "right"))
-        same(browser, f"whether the execution {words[2]} is in its row and its lane", True, is_right)
+        lane = lanes["server " + words[1]]
+        same(browser, f"whether the execution {words[2]} is in its row and its lane", True,
+             inside(mark, rows[at], ("top", "bottom")) and inside(mark, lane, ("left", "right")))
 
 
 def look_at_quoted_lines(browser):
@@ -105,13 +107,15 @@ def look_at_quoted_lines(browser):
       return [points, boxes('#lanes .quoted'), boxes('#log-rows .quoted-row')]""")
     found = [[box["text"] for box in boxes if box["left"] < x < box["right"] and box["top"] < y < box["bottom"]]
              for x, y in points]
-    same(browser, "the marks that the chain connects", [["1.0 set a x"], ["2.0 set a y"], ["2.0"], ["2.0 set a y"]], found)
+    same(browser, "the marks that the chain connects", [["1.0 set a x"], ["2.0 set a y"], ["2.0"], ["2.0 set a y"]],
+         found)
     inside_rows = [row["top"] < y < row["bottom"] for row, (_, y) in zip(rows, points)]
     same(browser, "whether the chain is at the quoted rows", [True] * len(QUOTED), inside_rows)
 
 
 def look_at_keys(browser):
-    """The keys do not step the schedule, which is out of sight. A focused bar says what the log shows of its command."""
+    """The keys do not step the schedule, which is out of sight. A focused bar tells what the log shows of its command.
+    """
     before = cursor(browser)
     browser.run("document.querySelector('#lanes [data-bar=\"2.0\"]').focus()")
     same(browser, "the story of the focused command",
@@ -133,7 +137,8 @@ def look_at_other_logs(browser):
 
 
 def many_commands():
-    """Each client always waits for one reply. Server 0 executes the commands in order. Server 1 begins with the second."""
+    """Each client waits for one reply at a time. Server 0 executes the commands in order. Server 1 begins with the second
+    one."""
     lines = []
     for number in range(COMMANDS // CLIENTS):
         names = [f"{client}.{number}" for client in range(CLIENTS)]
@@ -150,7 +155,7 @@ def look_at_a_long_log(browser):
     bars, most = browser.run(ALL_BARS)
     wanted = [line.removeprefix("submit ") for line in lines if line.startswith("submit ")]
     same(browser, "whether each of 2,000 commands has a bar", True, sorted(bars) == sorted(wanted))
-    same(browser, f"whether the page has less than {MOST_PARTS} parts of a long timeline: {most}", True, most < MOST_PARTS)
+    same(browser, f"whether {most} parts of a long timeline are less than {MOST_PARTS}", True, most < MOST_PARTS)
     # Line 5 is the execution of the first command, which server 1 lacks.
     browser.run("document.querySelector('#quoted-lines [data-line=\"5\"]').click()")
     same(browser, "the quoted row in sight", ["5 execute 0 0.0"], in_sight(browser))
@@ -167,8 +172,8 @@ def in_sight(browser):
 
 
 def look_at_what_is_left_out(browser):
-    """Of a longer log, the parts around the quoted lines are shown. The note counts the lines that are left out. A row is
-    in their place, so the timeline has one row more than it shows lines."""
+    """Of a longer log, the parts around the quoted lines are shown. The note counts the lines that are left out. A row
+    is in their place, so the timeline has one row more than it shows lines."""
     comments = 30_000
     log = "submit 1.0 set a x\n" + "# x\n" * comments + "reply 1.0 none\nreply 1.0 =x\n"
     total = comments + 3
@@ -177,7 +182,8 @@ def look_at_what_is_left_out(browser):
       / document.querySelector('#log-rows li').offsetHeight""")
     same(browser, "the note on lines that are left out", f"{total - (rows - 1):.0f} of {total} lines are left out.",
          browser.text("#left-out").split(". ")[0] + ".")
-    same(browser, "the quoted rows at the end", [f"{total - 1} reply 1.0 none", f"{total} reply 1.0 =x"], in_sight(browser))
+    same(browser, "the quoted rows at the end", [f"{total - 1} reply 1.0 none", f"{total} reply 1.0 =x"],
+         in_sight(browser))
 
 
 def look_at_contrasts(browser):

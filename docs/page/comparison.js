@@ -5,6 +5,8 @@
 // In letters. The browser needs seconds to lay out a longer text in a field.
 const LONGEST_IN_FIELD = 200_000;
 const LONGEST_LINE = 400;
+// In a sentence.
+const LONGEST_EVENT = 60;
 // The lines of an event that are shown, at most.
 const LINES_SHOWN = 60;
 // Characters that the browser does not show, or that change the direction of others.
@@ -26,7 +28,7 @@ function openOutput(name, text) {
   const isLong = text.length > LONGEST_IN_FIELD;
   $('output').placeholder = isLong ? `${name} is too long for this field, but it is compared.` : '';
   compareOutput();
-  say(`This is the output ${name}.`);
+  say(`${name}: ${$('difference').textContent || 'The file is empty.'}`);
 }
 
 function writeOutput() {
@@ -64,7 +66,8 @@ function showComparison() {
 // ---- words
 
 function inWords({ part, event, ours, theirs, tally, found, isCause, number }, schedule) {
-  const text = schedule.events[event];
+  const whole = schedule.events[event] ?? null, isLong = whole?.length > LONGEST_EVENT;
+  const text = isLong ? `${whole.slice(0, LONGEST_EVENT)} ..` : whole;
   switch (part) {
     case 'silence': return '';
     case 'no format': return 'This is neither a trace nor a report. A trace has lines such as “event 0 execute 0”.';
@@ -77,7 +80,7 @@ function inWords({ part, event, ours, theirs, tally, found, isCause, number }, s
     }
     default: {
       const ends = found === null && theirs.events.length <= event ? ' The trace of your store ends before it.' : '';
-      return text === undefined ? `Your store goes on after the last event, with event ${event}.`
+      return text === null ? `Your store goes on after the last event, with event ${event}.`
         : `The first difference is at event ${event} (${text}).${ends}`;
     }
   }
@@ -110,7 +113,7 @@ function remarksOn({ part, ours, theirs, tally, expected, found }, schedule) {
       + ` is line ${first}. conformance/compare reports this as a difference.`);
   }
   if (theirs.servers !== null && theirs.servers !== ours.servers) {
-    remarks.push(`Your store ran ${visible(theirs.servers)} servers. The schedule of this page has ${schedule.servers}.`);
+    remarks.push(`Your store ran ${visible(theirs.servers)} servers. The schedule has ${schedule.servers}.`);
   }
   if (part === 'trace' && expected && found && kindOf(expected.line) === 'event') {
     remarks.push('The events are different, so your store ran another schedule. Open that schedule first.');
@@ -127,7 +130,8 @@ function fillPair({ expected, found }) {
   $('pair').tBodies[0].replaceChildren();
   if (isEmpty) return;
   const lines = [expected, found].map(entry => (entry ? visible(bare(entry.line)) : null));
-  const row = (name, at) => el('tr', {}, el('th', { scope: 'row' }, name), el('td', {}, ...marked(lines[at], lines[1 - at])));
+  const row = (name, at) =>
+    el('tr', {}, el('th', { scope: 'row' }, name), el('td', {}, ...marked(lines[at], lines[1 - at])));
   const place = found ? `your store, line ${found.number}` : 'your store';
   $('pair').tBodies[0].replaceChildren(row('reference', 0), row(place, 1));
 }

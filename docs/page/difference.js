@@ -1,7 +1,7 @@
 'use strict';
 // Reads the output of a store for a schedule, and finds the first line that differs from the reference. The rules are
-// those of conformance/answers.py. In a trace, the lines `event` and `sent` are always compared. Another kind of line is
-// compared if the store prints lines of that kind. A report is compared as a whole.
+// those of conformance/answers.py. In a trace, the lines `event` and `sent` are always compared. Another kind of line
+// is compared if the store prints lines of that kind. A report is compared as a whole.
 
 const TRACE_KINDS = new Set(['event', 'refused', 'promises', 'acceptances', 'ignored', 'learned', 'sent', 'front',
   'executed', 'reply']);

@@ -74,6 +74,7 @@ function go(cursor) {
   stopPlay();
   closeCard();
   hideHint();
+  hideWays();
   page.cursor = Math.max(0, Math.min(page.schedule.events.length, cursor));
   show();
 }

@@ -59,7 +59,8 @@ function shownRows(text, total, quoted) {
   return rows;
 }
 
-const goneText = (first, last) => (first === last ? `line ${first} is left out` : `lines ${first} to ${last} are left out`);
+const goneText = (first, last) =>
+  (first === last ? `line ${first} is left out` : `lines ${first} to ${last} are left out`);
 
 // ---- bars and marks
 
@@ -172,7 +173,9 @@ function leftOut({ total, rows, hidden, lanes, judged }) {
     const bars = `${count(hidden, 'bar')} ${hidden === 1 ? 'is' : 'are'}`;
     parts.push(`${bars} left out, because a lane shows at most ${MOST_BARS} bars next to each other.`);
   }
-  if (judged < total) parts.push(`The verdict does not depend on the ${count(total - judged, 'line')} after line ${judged}.`);
+  if (judged < total) {
+    parts.push(`The verdict does not depend on the ${count(total - judged, 'line')} after line ${judged}.`);
+  }
   for (const { title } of lanes.filter(({ name }) => name === null)) parts.push(`${title} share a lane.`);
   return parts.join(' ');
 }

@@ -40,11 +40,14 @@ const SCROLL_KEYS = {
   Home: () => -Infinity, End: () => Infinity,
 };
 
+// Parts that use these keys themselves.
+const OWN_KEYS = 'textarea, select, input, [role=tablist], pre';
+
 function keyedInTimeline(event) {
-  const { key, target } = event, stage = $('log-stage');
-  if (!document.body.classList.contains('logs') || document.querySelector('dialog[open]') || ['?', 'p'].includes(key)) return;
+  const { key, target } = event, stage = $('log-stage'), isInSight = document.body.classList.contains('logs');
+  if (!isInSight || document.querySelector('dialog[open]') || ['?', 'p'].includes(key)) return;
   event.stopPropagation();
-  if (event.ctrlKey || event.metaKey || event.altKey || target.closest('textarea, select, input, [role=tablist], pre')) return;
+  if (event.ctrlKey || event.metaKey || event.altKey || target.closest(OWN_KEYS)) return;
   if (key === 'n') goToNextQuoted();
   else if (SCROLL_KEYS[key]) scrollStage(stage, SCROLL_KEYS[key](stage.clientHeight - HEADS - ROW));
   else if (['ArrowLeft', 'ArrowRight'].includes(key)) stage.scrollLeft += key === 'ArrowLeft' ? -60 : 60;

@@ -13,7 +13,8 @@ const board = { timeline: null, first: 0, last: -1, lit: null, place: null };
 
 // Shows the timeline of a log with the verdict of the program. `printed` and `said` are its texts.
 function fillTimeline(text, { printed, said }) {
-  const quoted = [...(printed || said).matchAll(/^line (\d+): (.*)$/gm)].map(found => ({ number: +found[1], text: found[2] }));
+  const quoted = [...(printed || said).matchAll(/^line (\d+): (.*)$/gm)]
+    .map(([, number, content]) => ({ number: +number, text: content }));
   const numbers = quoted.map(({ number }) => number).sort((one, other) => one - other);
   board.timeline = new Timeline(text, numbers);
   board.lit = null;
@@ -64,11 +65,13 @@ function arrangeLanes(lanes) {
 function fillLaneHeads() {
   const { lanes, rows } = board.timeline;
   $('lane-heads').replaceChildren(el('span', { class: 'corner-of-log' }, 'line'),
-    ...lanes.map(lane => el('b', { class: laneClass(lane), style: `left:${lane.left}px;width:${lane.width}px` }, lane.title)));
+    ...lanes.map(lane => el('b', { class: laneClass(lane), style: placeOf(lane) }, lane.title)));
   $('no-lines').hidden = rows.length > 0;
 }
 
-const laneClass = ({ group, name }) => (group === 'server' ? `lane-of-server owner${(name ?? 0) % 7}` : `lane-of-${group}`);
+const placeOf = ({ left, width }) => `left:${left}px;width:${width}px`;
+const laneClass = ({ group, name }) =>
+  (group === 'server' ? `lane-of-server owner${(name ?? 0) % 7}` : `lane-of-${group}`);
 
 // A button for each quoted line.
 function fillQuoted(quoted) {
@@ -105,19 +108,19 @@ function showRows(isForced = false) {
 }
 
 const styleAt = (left, row, width, rows = 1) =>
-  `left:${left}px;top:${row * ROW}px;width:${width}px;height:${rows * ROW}px`;
+  `left:${left}px;top:${row * ROW}px;width:${width}px;height:${rows * ROW - 4}px`;
 const isQuoted = row => board.timeline.quotedRows.includes(row);
 const classes = (...names) => names.filter(Boolean).join(' ');
 
 function rowOfLog({ number, text }, row) {
   const isAfter = number > board.timeline.judged;
   const name = classes(isQuoted(row) && 'quoted-row', number === null && 'gone', isAfter && 'not-judged');
-  return el('li', { class: name, style: `top:${row * ROW}px`, title: text }, el('b', {}, number === null ? '' : String(number)),
+  return el('li', { class: name, style: `top:${row * ROW}px`, title: text }, el('b', {}, String(number ?? '')),
     isQuoted(row) ? el('span', { class: 'unseen' }, 'quoted: ') : null, ` ${text}`);
 }
 
 const laneLines = ({ lanes }) => lanes.map(lane =>
-  el('i', { class: classes('lane-line', laneClass(lane)), style: `left:${lane.left}px;width:${lane.width}px` }));
+  el('i', { class: classes('lane-line', laneClass(lane)), style: placeOf(lane) }));
 
 // The bar of a command. Its label stays in sight. A bar without a reply has no end, and one without a submission no
 // beginning.
@@ -136,12 +139,13 @@ function partsOf(mark) {
   const { row, id, label, lane, isEnd, isExecution } = mark, command = board.timeline.commands.get(id);
   if (isEnd) return [];
   const left = isExecution || !command || command.column === null ? lane.left : lane.left + command.column * board.bar;
-  const name = classes('mark', isExecution && 'execution', laneClass(lane), isQuoted(row) && 'quoted', board.lit === id && id && 'lit');
-  const made = [el('div', { class: name, style: styleAt(left, row, (isExecution ? MARK : lane.width) - 4), 'data-id': id,
-    title: board.timeline.rows[row].text }, label)];
+  const isLit = id !== null && board.lit === id, width = isExecution ? MARK : Math.min(lane.width, WIDEST_BAR);
+  const name = classes('mark', isExecution && 'execution', laneClass(lane), isQuoted(row) && 'quoted', isLit && 'lit');
+  const title = board.timeline.rows[row].text;
+  const made = [el('div', { class: name, style: styleAt(left, row, width - 4), 'data-id': id, title }, label)];
   if (isExecution && command.column !== null) {
     const start = command.lane.left + (command.column + 1) * board.bar - 4;
-    const kind = classes('thread', row > command.to && 'late', board.lit === id && 'lit');
+    const kind = classes('thread', row > command.to && 'late', isLit && 'lit');
     made.unshift(el('i', { class: kind, 'data-id': id, style: styleAt(start, row, lane.left - start) }));
   }
   return made;
@@ -186,7 +190,8 @@ function drawOverview() {
   if ($('overview').classList.contains('unneeded')) return;
   const bars = timeline.bars.filter(({ column }) => column !== null)
     .map(({ lane, column, from, to }) => `M${lane.left + (column + 0.5) * board.bar} ${from}V${to + 1}`).join('');
-  const executions = timeline.marks.filter(mark => mark?.isExecution).map(({ lane, row }) => `M${lane.left} ${row}h${MARK}`).join('');
+  const executions = timeline.marks.filter(mark => mark?.isExecution)
+    .map(({ lane, row }) => `M${lane.left} ${row}h${MARK}`).join('');
   const quoted = timeline.quotedRows.map(row => `M0 ${row + 0.5}h${board.width}`).join('');
   const picture = svgOf('svg', { viewBox: `0 0 ${board.width} ${rows.length}`, preserveAspectRatio: 'none' });
   for (const [name, d] of [['bars', bars], ['executions', executions], ['quotes', quoted]]) {

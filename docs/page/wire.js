@@ -232,6 +232,7 @@ function wire() {
   wireFiles();
   wireComparison();
   wireTimeline();
+  wireWays();
   fillKey(core);
   measure();
   addEventListener('keydown', keyed);
