@@ -66,7 +66,8 @@ def long_log():
 
 
 def judge_a_long_log(browser):
-    """Server 1 begins with the second command. The last line says so, and the page works meanwhile."""
+    """Server 1 begins with the second command. The last line says so, and the page works meanwhile. The log stays in the
+    page for timelines.py."""
     browser.click("#tab-judge")
     log = long_log()
     browser.run(f"document.getElementById('log').value = {json.dumps(log)}; document.body.offsetHeight")
@@ -80,4 +81,3 @@ def judge_a_long_log(browser):
     same(browser, "the verdict on the long log", wanted, browser.text("#judgement"))
     same(browser, "the logs that the page judged without the worker", 0, browser.run("return window.judged"))
     say(f"a log of {len(log)} letters takes {time:.0f} ms of processor time of the page")
-    browser.click("#tab-lesson")

@@ -4,7 +4,7 @@ import os
 import sys
 
 from files import drop
-from page_user import URL, cursor, same
+from page_user import cursor, same
 from shared import TOP, start_to
 
 EXAMPLE = "wrong_suspicion_keeps_the_command"
@@ -14,7 +14,6 @@ HOSTILE = "event 0 <img src=x onerror='document.title=1'>\n"
 
 
 def look(browser):
-    browser.open(URL)
     browser.choose("#example", EXAMPLE)
     right, wrong = trace_of_store(), trace_of_store("--break", BREAK)
     drop_a_wrong_trace(browser, right, wrong)

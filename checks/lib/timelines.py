@@ -2,8 +2,9 @@
 the verdict quotes must be marked."""
 import json
 
+import files
 from files import drop, read
-from page_user import URL, cursor, same
+from page_user import cursor, same
 from readable import LEAST_CONTRAST, media
 
 COMMANDS, CLIENTS = 2_000, 4
@@ -17,16 +18,16 @@ HOSTILE = "# <img src=x>\nsubmit 1.0 set a x\nexecute 0 1.0\nreply 1.0 none\n<im
 BOXES = """const box = part => { const { left, right, top, bottom } = part.getBoundingClientRect();
     return { left, right, top, bottom, text: part.textContent.trim(), id: part.dataset.id ?? null }; };
   const boxes = selector => [...document.querySelectorAll(selector)].map(box);"""
-# Scrolls through the timeline, and collects the bars of all windows.
-ALL_BARS = """const [stage, rows] = ['log-stage', 'log-rows'].map(id => document.getElementById(id)), seen = new Set();
-  let most = 0, top = -1;
-  for (stage.scrollTop = 0; stage.scrollTop > top; stage.scrollTop = rows.lastChild.offsetTop) {
-    top = stage.scrollTop;
+# Scrolls to places of the timeline. For each place: the numbers of the first and the last row in the page, the commands
+# of the bars, and the number of parts.
+PLACES = """const [stage, rows] = ['log-stage', 'log-rows'].map(id => document.getElementById(id));
+  const numberOf = row => Number(row.querySelector('b').textContent);
+  return [0, 0.13, 0.5, 0.77, 1].map(share => {
+    stage.scrollTop = share * stage.scrollHeight;
     stage.onscroll();
-    for (const bar of document.querySelectorAll('#lanes .bar')) seen.add(bar.textContent);
-    most = Math.max(most, document.querySelectorAll('#timeline *').length);
-  }
-  return [[...seen], most]"""
+    const bars = [...document.querySelectorAll('#lanes .bar')].map(bar => bar.textContent);
+    return [numberOf(rows.firstChild), numberOf(rows.lastChild), bars, document.querySelectorAll('#timeline *').length];
+  })"""
 # The least contrast of the texts of the timeline with what is behind them, as [count, contrast].
 CONTRASTS = """const parts = colour => colour.match(/[\\d.]+/g).map(Number);
   const light = colour => colour.slice(0, 3).map(one => one / 255).map(one =>
@@ -37,18 +38,24 @@ CONTRASTS = """const parts = colour => colour.match(/[\\d.]+/g).map(Number);
   const ratio = part => { const [a, b] = [light(parts(getComputedStyle(part).color)), light(under(part))]
     .sort((x, y) => y - x); return (a + 0.05) / (b + 0.05); };
   const texts = [...document.querySelectorAll('#log-head p, #quoted-lines button, #lane-heads > *, #log-rows li,'
-    + '#log-rows b, #lanes .bar span, #lanes .mark, #command-card, #difference, #pair td, #pair b, #sides li, .way, #ways p')]
+    + '#log-rows b, #lanes .bar span, #lanes .mark, #command-card')]
     .filter(part => part.textContent.trim() && part.offsetWidth > 0);
   return [texts.length, Math.min(...texts.map(ratio))]"""
 
 
 def look(browser):
-    browser.open(URL)
     look_at_bars(browser)
     look_at_quoted_lines(browser)
     look_at_keys(browser)
     look_at_other_logs(browser)
     browser.click("#tab-lesson")
+
+
+def look_at_long_logs(browser):
+    """Comes after files.judge_a_long_log, which leaves its log in the page."""
+    look_at_what_is_left_out(browser)
+    look_at_a_long_log(browser)
+    look_at_contrasts(browser)
 
 
 def drop_log(browser, name, text, verdict):
@@ -137,32 +144,31 @@ def look_at_other_logs(browser):
 
 
 def many_commands():
-    """Each client waits for one reply at a time. Server 0 executes the commands in order. Server 1 begins with the second
-    one."""
+    """Each client waits for one reply at a time. Server 0 executes the commands in order. Server 1 begins with the
+    second one."""
     lines = []
     for number in range(COMMANDS // CLIENTS):
         names = [f"{client}.{number}" for client in range(CLIENTS)]
         lines += [f"submit {name} set k{name} v" for name in names] + [f"execute 0 {name}" for name in names]
         lines += [f"reply {name} none" for name in names]
-    return "\n".join([*lines, "execute 1 1.0", ""])
+    return [*lines, "execute 1 1.0"]
 
 
 def look_at_a_long_log(browser):
-    """2,000 commands have 2,000 bars, of which few are in the page at once. A button leads to a quoted line."""
-    log = many_commands()
-    drop_log(browser, "many.log", log, "violation ")
-    lines = log.splitlines()
-    bars, most = browser.run(ALL_BARS)
-    wanted = [line.removeprefix("submit ") for line in lines if line.startswith("submit ")]
-    same(browser, "whether each of 2,000 commands has a bar", True, sorted(bars) == sorted(wanted))
-    same(browser, f"whether {most} parts of a long timeline are less than {MOST_PARTS}", True, most < MOST_PARTS)
+    """At some places of a log of 2,000 commands, the page has a bar for each command that is submitted up to its last
+    row and has no reply before its first row. A button leads to a quoted line."""
+    lines = many_commands()
+    drop_log(browser, "many.log", "".join(line + "\n" for line in lines), "violation ")
+    for first, last, bars, parts in browser.run(PLACES):
+        begun = {line for line in lines[:last] if line.startswith("submit ")}
+        ended = {line.split(" ")[1] for line in lines[:first - 1] if line.startswith("reply ")}
+        wanted = {line.removeprefix("submit ") for line in begun if line.split(" ")[1] not in ended}
+        same(browser, f"the bars at lines {first} to {last}", sorted(wanted), sorted(bars))
+        same(browser, f"whether {parts} parts of a long timeline are less than {MOST_PARTS}", True, parts < MOST_PARTS)
     # Line 5 is the execution of the first command, which server 1 lacks.
-    browser.run("document.querySelector('#quoted-lines [data-line=\"5\"]').click()")
-    same(browser, "the quoted row in sight", ["5 execute 0 0.0"], in_sight(browser))
-    browser.run(f"document.querySelector('#quoted-lines [data-line=\"{len(lines)}\"]').click()")
-    same(browser, "the last row in sight", [f"{len(lines)} execute 1 1.0"], in_sight(browser))
-    look_at_what_is_left_out(browser)
-    browser.click("#tab-lesson")
+    for line in (5, len(lines)):
+        browser.run(f"document.querySelector('#quoted-lines [data-line=\"{line}\"]').click()")
+        same(browser, "the quoted row in sight", [f"{line} {lines[line - 1]}"], in_sight(browser))
 
 
 def in_sight(browser):
@@ -172,26 +178,21 @@ def in_sight(browser):
 
 
 def look_at_what_is_left_out(browser):
-    """Of a longer log, the parts around the quoted lines are shown. The note counts the lines that are left out. A row
-    is in their place, so the timeline has one row more than it shows lines."""
-    comments = 30_000
-    log = "submit 1.0 set a x\n" + "# x\n" * comments + "reply 1.0 none\nreply 1.0 =x\n"
-    total = comments + 3
-    drop_log(browser, "comments.log", log, f"violation {total} OneReply ")
+    """Of the long log of files.py, the parts around the quoted lines are shown. The note counts the lines that are left
+    out. A row is in their place, so the timeline has one row more than it shows lines."""
+    total = 3 * files.COMMANDS + 1
+    browser.wait("return document.getElementById('left-out').textContent.includes(' are left out.')", "the note")
     rows = browser.run("""return document.getElementById('log-body').offsetHeight
       / document.querySelector('#log-rows li').offsetHeight""")
     same(browser, "the note on lines that are left out", f"{total - (rows - 1):.0f} of {total} lines are left out.",
          browser.text("#left-out").split(". ")[0] + ".")
-    same(browser, "the quoted rows at the end", [f"{total - 1} reply 1.0 none", f"{total} reply 1.0 =x"],
-         in_sight(browser))
+    same(browser, "the quoted row at the end", [f"{total} execute 1 1.1"], in_sight(browser))
 
 
 def look_at_contrasts(browser):
+    browser.choose("#logs", "right_reply")
     for scheme in ("light", "dark"):
         with media(browser, "prefers-color-scheme", scheme):
-            browser.open(URL)
-            browser.click("#tab-judge")
-            browser.choose("#logs", "right_reply")
             count, least = browser.run(CONTRASTS)
             same(browser, f"whether many texts of the timeline are measured ({scheme})", True, count > 15)
             same(browser, f"whether the least contrast of the timeline, {least:.2f}, is enough ({scheme})", True,

@@ -19,7 +19,8 @@ def look(browser):
 
 
 def take(browser, way):
-    browser.open(URL)
+    if not is_seen(browser, "#ways"):
+        browser.click("#title")
     browser.click(f'#ways [data-way="{way}"]')
     same(browser, f"whether the line goes away after {way}", False, is_seen(browser, "#ways"))
 
@@ -50,6 +51,7 @@ def learn(browser):
 
 def build(browser):
     """A command is on its way. The hint says what to click, and undo brings the former schedule back."""
+    former = cursor(browser)
     take(browser, "build")
     same(browser, "the cursor of the new schedule", "1 of 1", cursor(browser))
     same(browser, "whether the schedule is seen", [True, True],
@@ -59,7 +61,7 @@ def build(browser):
     same(browser, "the cursor after following the hint", "2 of 2", cursor(browser))
     browser.click("#undo")
     browser.click("#undo")
-    same(browser, "the former schedule", "6 of 14", cursor(browser))
+    same(browser, "the former schedule", former, cursor(browser))
 
 
 def judge(browser):
@@ -76,7 +78,8 @@ def judge(browser):
 
 
 def bring_it_back(browser):
+    browser.choose("#example", "one_command")
     browser.click("#title")
     same(browser, "whether the title brings the line back", True, is_seen(browser, "#ways"))
-    browser.click("#next")
+    browser.click("#back")
     same(browser, "whether a step hides the line", False, is_seen(browser, "#ways"))

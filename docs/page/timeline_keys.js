@@ -82,7 +82,8 @@ function wireTimeline() {
   }).observe($('log-stage'));
 }
 
-// Shows the timeline in place of the picture if the tab of the log is chosen.
+// Shows the timeline in place of the picture if the tab of the log is chosen. Out of sight, it loses its place.
 function showView(tab) {
   document.body.classList.toggle('logs', tab === 'judge');
+  if (tab !== 'judge') board.place = null;
 }
