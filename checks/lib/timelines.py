@@ -166,9 +166,13 @@ def look_at_a_long_log(browser):
         same(browser, f"the bars at lines {first} to {last}", sorted(wanted), sorted(bars))
         same(browser, f"whether {parts} parts of a long timeline are less than {MOST_PARTS}", True, parts < MOST_PARTS)
     # Line 5 is the execution of the first command, which server 1 lacks.
-    for line in (5, len(lines)):
+    for line in (len(lines), 5):
         browser.run(f"document.querySelector('#quoted-lines [data-line=\"{line}\"]').click()")
         same(browser, "the quoted row in sight", [f"{line} {lines[line - 1]}"], in_sight(browser))
+    browser.click("#tab-lesson")
+    browser.click("#tab-judge")
+    browser.wait("return document.getElementById('log-stage').scrollTop > 1000", "the place of the last quoted line")
+    same(browser, "the quoted row after another tab", [f"{len(lines)} {lines[-1]}"], in_sight(browser))
 
 
 def in_sight(browser):

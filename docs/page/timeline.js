@@ -163,11 +163,13 @@ function storyOf(timeline, { id, text, submitted, replied, reply, executions }) 
 }
 
 // Says what the timeline leaves out.
-function leftOut({ total, rows, hidden, lanes, judged }) {
+function leftOut({ total, rows, hidden, lanes, judged, quoted }) {
   const gone = rows.reduce((sum, row) => sum + row.gone, 0), parts = [];
   if (gone > 0) {
-    parts.push(`${gone} of ${total} lines are left out. The timeline shows at most ${MOST_LINES} lines, around those`
-      + ' that the verdict quotes. A command whose submission is left out has a bar without a beginning.');
+    const shown = quoted.length > 0 ? `at most ${MOST_LINES} lines, around those that the verdict quotes`
+      : `the first ${MOST_LINES} lines`;
+    parts.push(`${gone} of ${total} lines are left out. The timeline shows ${shown}.`
+      + ' A command whose submission is left out has a bar without a beginning.');
   }
   if (hidden > 0) {
     const bars = `${count(hidden, 'bar')} ${hidden === 1 ? 'is' : 'are'}`;
