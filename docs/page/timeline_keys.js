@@ -74,7 +74,7 @@ function wireTimeline() {
   document.addEventListener('keydown', keyedInTimeline);
   new ResizeObserver(() => {
     if (!board.timeline) return;
-    showOverview();
+    showLogOverview();
     arrangeLanes(board.timeline.lanes);
     fillLaneHeads();
     showRows(true);

@@ -19,7 +19,7 @@ function fillTimeline(text, { printed, said }) {
   board.timeline = new Timeline(text, numbers);
   board.lit = null;
   board.last = -1;
-  showOverview();
+  showLogOverview();
   arrangeLanes(board.timeline.lanes);
   $('timeline-verdict').className = $('judgement').className;
   $('timeline-verdict').textContent = $('judgement').textContent;
@@ -180,7 +180,7 @@ function chainOf(timeline) {
 // ---- the overview
 
 // Shows a strip with the whole timeline if it does not fit into the window.
-function showOverview() {
+function showLogOverview() {
   const { clientHeight } = $('log-stage'), isNeeded = board.timeline.rows.length * ROW > 1.5 * clientHeight;
   $('overview').classList.toggle('unneeded', !isNeeded);
 }
