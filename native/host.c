@@ -1,0 +1,158 @@
+/* The two calls of mencius.h, over the C that wasm2c makes from module/mencius.wasm. native/translate compiles this
+ * file together with the runtime of wasm2c.
+ *
+ * Each call starts an instance of the module and frees it at the end. So no call sees another, and several threads may
+ * call at once. If the module stops by itself or runs out of memory, the call ends with status 5. */
+#include <pthread.h>
+#include <setjmp.h>
+#include <stdint.h>
+#include <stdlib.h>
+#include <string.h>
+
+#include "mencius.h"
+#include "translated.h"
+
+#if defined(__BYTE_ORDER__) && __BYTE_ORDER__ != __ORDER_LITTLE_ENDIAN__
+#error "This code copies numbers as they are, so it needs a machine that stores the least byte first."
+#endif
+
+/* wasm2c 1.0.33 gave its functions other names. native/translate defines OLD_NAMES for earlier versions. */
+#ifdef OLD_NAMES
+typedef Z_mencius_instance_t instance;
+#define EXPORT(name) Z_menciusZ_##name
+#define INSTANTIATE Z_mencius_instantiate
+#define FREE Z_mencius_free
+#else
+typedef w2c_mencius instance;
+#define EXPORT(name) w2c_mencius_##name
+#define INSTANTIATE wasm2c_mencius_instantiate
+#define FREE wasm2c_mencius_free
+#endif
+
+#define NO_MEMORY (-1)
+/* One page less than 4 GiB. The runtime of some versions computes the length in 32 bits. */
+#define MOST_PAGES 65535
+
+/* The place to which a call of this thread jumps if it cannot go on. */
+static _Thread_local jmp_buf *way_out;
+
+/* The runtime calls these two in place of its own longjmp and of calloc, whose result it does not look at. */
+static _Noreturn void stop(int reason) { longjmp(*way_out, reason); }
+
+static void *take_zeros(size_t count, size_t size)
+{
+    void *zeros = calloc(count, size);
+    if (!zeros) stop(NO_MEMORY);
+    return zeros;
+}
+
+#define WASM_RT_TRAP_HANDLER stop
+#define calloc take_zeros
+#include "wasm-rt-impl.c"
+#ifdef SEPARATE_MEMORY
+#include "wasm-rt-mem-impl.c"
+#endif
+#undef calloc
+
+struct call {
+    const uint8_t *words; /* null for mencius_state */
+    size_t words_length;
+    const uint8_t *input;
+    size_t input_length;
+    uint8_t *printed, *said;
+    size_t printed_room, said_room;
+    struct mencius_answer *answer;
+};
+
+static pthread_once_t is_started = PTHREAD_ONCE_INIT;
+
+static void start(void)
+{
+    wasm_rt_init();
+#ifdef OLD_NAMES
+    Z_mencius_init_module();
+#endif
+}
+
+/* Allocates room in the memory of the module. */
+static uint64_t room(instance *module, size_t length)
+{
+    uint64_t at = EXPORT(mencius_room)(module, (uint64_t)length + 1);
+    if (!at) stop(NO_MEMORY);
+    return at;
+}
+
+static uint64_t put(instance *module, const uint8_t *bytes, size_t length)
+{
+    uint64_t at = room(module, length);
+    memcpy(EXPORT(memory)(module)->data + at, bytes, length);
+    return at;
+}
+
+static void call_module(instance *module, const struct call *c)
+{
+    uint64_t words = c->words ? put(module, c->words, c->words_length) : 0;
+    uint64_t input = put(module, c->input, c->input_length);
+    uint64_t printed = room(module, c->printed_room), said = room(module, c->said_room);
+    uint64_t answer = room(module, sizeof *c->answer);
+    if (c->words)
+        EXPORT(mencius_call)(module, words, c->words_length, input, c->input_length, printed, c->printed_room, said,
+                             c->said_room, answer);
+    else
+        EXPORT(mencius_state)(module, input, c->input_length, printed, c->printed_room, said, c->said_room, answer);
+    const uint8_t *memory = EXPORT(memory)(module)->data;
+    memcpy(c->answer, memory + answer, sizeof *c->answer);
+    if (c->answer->printed <= c->printed_room) memcpy(c->printed, memory + printed, c->answer->printed);
+    if (c->answer->said <= c->said_room) memcpy(c->said, memory + said, c->answer->said);
+}
+
+/* The answer of a call that could not go on. */
+static void answer_without_module(const struct call *c, int reason)
+{
+    static const char head[] = "mencius: fault 26 NoMemory\nmencius: the module stopped: ";
+    const char *why = reason == NO_MEMORY ? "the module has no memory" : wasm_rt_strerror((wasm_rt_trap_t)reason);
+    size_t length = sizeof head - 1 + strlen(why) + 1;
+    *c->answer = (struct mencius_answer){.status = 5, .said = length, .asked = 1};
+    if (length > c->said_room) return;
+    memcpy(c->said, head, sizeof head - 1);
+    memcpy(c->said + sizeof head - 1, why, strlen(why));
+    c->said[length - 1] = '\n';
+}
+
+static void try_to_call(instance *module, const struct call *c)
+{
+    jmp_buf place;
+    int reason = setjmp(place);
+    if (reason) {
+        answer_without_module(c, reason);
+        return;
+    }
+    way_out = &place;
+    INSTANTIATE(module);
+    EXPORT(memory)(module)->max_pages = MOST_PAGES;
+    call_module(module, c);
+}
+
+static void run(const struct call *c)
+{
+    instance module;
+    memset(&module, 0, sizeof module);
+    pthread_once(&is_started, start);
+    try_to_call(&module, c);
+    FREE(&module);
+}
+
+__attribute__((visibility("default")))
+void mencius_call(const uint8_t *words, size_t words_length, const uint8_t *input, size_t input_length,
+                  uint8_t *printed, size_t printed_room, uint8_t *said, size_t said_room,
+                  struct mencius_answer *answer)
+{
+    run(&(struct call){words, words_length, input, input_length, printed, said, printed_room, said_room, answer});
+}
+
+__attribute__((visibility("default")))
+void mencius_state(const uint8_t *input, size_t input_length, uint8_t *printed, size_t printed_room, uint8_t *said,
+                   size_t said_room, struct mencius_answer *answer)
+{
+    run(&(struct call){NULL, 0, input, input_length, printed, said, printed_room, said_room, answer});
+}
