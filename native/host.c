@@ -3,11 +3,15 @@
  *
  * Each call starts an instance of the module and frees it at the end. So no call sees another, and several threads may
  * call at once. If the module stops by itself or runs out of memory, the call ends with status 5. */
+#define _GNU_SOURCE
 #include <pthread.h>
 #include <setjmp.h>
 #include <stdint.h>
 #include <stdlib.h>
 #include <string.h>
+#ifdef __linux__
+#include <sys/mman.h>
+#endif
 
 #include "mencius.h"
 #include "translated.h"
@@ -36,15 +40,51 @@ typedef w2c_mencius instance;
 /* The place to which a call of this thread jumps if it cannot go on. */
 static _Thread_local jmp_buf *way_out;
 
-/* The runtime calls these two in place of its own longjmp and of calloc, whose result it does not look at. */
+/* The runtime calls this in place of its own longjmp. */
 static _Noreturn void stop(int reason) { longjmp(*way_out, reason); }
 
+/* The runtime takes memory by these functions, and does not look at the result of calloc. On Linux, the pages of a
+ * block are zero until they are written. So the runtime need not clear them, and growing a block copies nothing. Only
+ * the runtime of version 1.0.32 was tried in this way. */
+#if defined(__linux__) && defined(OLD_NAMES)
+enum { HEAD = 64 };
+
+static void *take_zeros(size_t count, size_t size)
+{
+    size_t length = HEAD + count * size;
+    size_t *block = mmap(NULL, length, PROT_READ | PROT_WRITE, MAP_PRIVATE | MAP_ANONYMOUS, -1, 0);
+    if (block == MAP_FAILED) stop(NO_MEMORY);
+    *block = length;
+    return (char *)block + HEAD;
+}
+
+static size_t *block_of(void *data) { return (size_t *)((char *)data - HEAD); }
+
+static void *grow_zeros(void *data, size_t size)
+{
+    if (!data) return take_zeros(1, size);
+    size_t *block = mremap(block_of(data), *block_of(data), HEAD + size, MREMAP_MAYMOVE);
+    if (block == MAP_FAILED) return NULL;
+    *block = HEAD + size;
+    return (char *)block + HEAD;
+}
+
+static void give_back(void *data)
+{
+    if (data) munmap(block_of(data), *block_of(data));
+}
+
+#define realloc grow_zeros
+#define free give_back
+#define memset(to, zero, length) ((void)0)
+#else
 static void *take_zeros(size_t count, size_t size)
 {
     void *zeros = calloc(count, size);
     if (!zeros) stop(NO_MEMORY);
     return zeros;
 }
+#endif
 
 #define WASM_RT_TRAP_HANDLER stop
 #define calloc take_zeros
@@ -53,6 +93,9 @@ static void *take_zeros(size_t count, size_t size)
 #include "wasm-rt-mem-impl.c"
 #endif
 #undef calloc
+#undef realloc
+#undef free
+#undef memset
 
 struct call {
     const uint8_t *words; /* null for mencius_state */
