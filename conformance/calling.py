@@ -27,8 +27,12 @@ def by_starting(program):
 
 def by_library():
     """Calls the library that MENCIUS_LIBRARY names."""
-    mencius = load(os.path.join(TOP, "embedding", "mencius.py"))
-    return one_at_a_time(lambda words, data: mencius.call(words, data)[:2])
+    library = load(os.path.join(TOP, "embedding", "python", "mencius", "library.py"))
+
+    def call(words, data):
+        answer = library.call(words, data)
+        return answer.status, answer.printed
+    return one_at_a_time(call)
 
 
 def by_module():

@@ -1,4 +1,4 @@
-/* cc caller.c libmencius_exports.a liblibc_c.a -o caller -lpthread
+/* cc -o caller embedding/caller.c native/libmencius.a -lm -lpthread
  *
  *     ./caller replay --strict < SCENARIO           does the same as the program
  *     ./caller --threads replay < SCENARIO          also makes 100 calls in each of four threads, on 128 kB of stack */

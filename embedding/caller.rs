@@ -1,4 +1,4 @@
-// rustc -O caller.rs -L FOLDER -l static=mencius_exports -l static=libc_c -o caller
+// rustc -O -o caller embedding/caller.rs -L native -l static=mencius
 use std::io::{Read, Write};
 
 #[repr(C)]

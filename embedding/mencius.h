@@ -6,7 +6,7 @@
  * threads may call them at the same time, if no two calls share an output buffer or an answer. A call needs 128 kB of
  * stack. Do not call these functions from a signal handler.
  *
- * Link with libmencius_exports.a, liblibc_c.a and the C library only. docs/EMBEDDING.md explains how. */
+ * Link with libmencius.a or libmencius.so, and with the C library only. docs/EMBEDDING.md explains how. */
 #ifndef MENCIUS_H
 #define MENCIUS_H
 
