@@ -40,13 +40,15 @@ typedef w2c_mencius instance;
 /* The place to which a call of this thread jumps if it cannot go on. */
 static _Thread_local jmp_buf *way_out;
 
-/* The runtime calls this in place of its own longjmp. */
 static _Noreturn void stop(int reason) { longjmp(*way_out, reason); }
 
+/* The runtime calls this in place of its own longjmp. */
+void mencius_trap(wasm_rt_trap_t reason) { stop((int)reason); }
+
 /* The runtime takes memory by these functions, and does not look at the result of calloc. On Linux, the pages of a
- * block are zero until they are written. So the runtime need not clear them, and growing a block copies nothing. Only
- * the runtime of version 1.0.32 was tried in this way. */
-#if defined(__linux__) && defined(OLD_NAMES)
+ * block are zero until they are written. So the runtime need not clear them, and growing a block copies nothing.
+ * native/translate defines ZERO_PAGES for the versions that use memset only for clearing such pages. */
+#if defined(__linux__) && defined(ZERO_PAGES)
 enum { HEAD = 64 };
 
 static void *take_zeros(size_t count, size_t size)
@@ -86,7 +88,7 @@ static void *take_zeros(size_t count, size_t size)
 }
 #endif
 
-#define WASM_RT_TRAP_HANDLER stop
+#define WASM_RT_TRAP_HANDLER mencius_trap
 #define calloc take_zeros
 #include "wasm-rt-impl.c"
 #ifdef SEPARATE_MEMORY
