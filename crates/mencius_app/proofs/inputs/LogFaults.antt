@@ -27,7 +27,7 @@ unread_log options old new failure (inr (inr (inl (e, none, long)))) =
       };
       words = if_none _ failure.words none;
     }
-unread_log options old new failure (inr (inr (inr (bytes, same, either, number, bad, may)))) =
+unread_log options old new failure (inr (inr (inr (bytes, same, (either, number, bad, may))))) =
     let other = no_other failure.fault (inr either) in record {
       cause = record {
         bad_input = λ _. IfSome_then old.bytes same

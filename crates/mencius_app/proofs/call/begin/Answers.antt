@@ -1,8 +1,8 @@
-use Rattle.mencius_app.proofs.Words.{◌≡◌, ◌∙◌, inr, refl, sym, true, kind_of, are_texts, bytes_of, task_state}
+use Rattle.mencius_app.proofs.Words.{◌≡◌, ◌∙◌, arith, inl, inr, refl, sym, false, true, kind_of, are_texts, bytes_of, line_of, task_in, task_state}
 use Rattle.mencius_app.specs.Calls.{AsksFor}
 use Rattle.mencius_app.specs.Tasks.{streams}
 use Rattle.mencius_app.proofs.inputs.ArgumentAnswers.{answered}
-use Rattle.mencius_app.proofs.inputs.TaskEnds.{call_ended, call_reads, ended_also, not_refused, run_also}
+use Rattle.mencius_app.proofs.inputs.TaskEnds.{asks_nothing, call_ended, call_reads, ended_also, not_refused, run_also}
 use Rattle.mencius_app.proofs.call.begin.Goals as goal
 
 pub returns-in-Ok : goal.returns-in-Ok
@@ -41,4 +41,19 @@ returns-in-Err g c =
       complaint = λ refused. let told = h.complaint refused in (told.0, inr (texts, told.1), told.2);
       quiet = h.quiet;
       run = tt;
+    }
+
+pub returns-then-not-are_texts-clause-call : goal.returns-then-not-are_texts-clause-call
+returns-then-not-are_texts-clause-call g c =
+    let arguments = bytes_of c.args.arguments.now in
+    let not_text : are_texts arguments ≡ false = cc in
+    record {
+      done = λ e. absurd (cc);
+      refused = λ e. absurd (cc);
+      not_text = λ _. refl;
+      mistaken = λ _. inl not_text;
+      cause = tt;
+      words = tt;
+      board = λ e. absurd (cc);
+      asked = (asks_nothing (task_in (line_of arguments)) (g.R.Source.state c.args.source.now), omega arith);
     }

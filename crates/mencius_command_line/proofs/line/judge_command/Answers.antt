@@ -7,7 +7,8 @@ use Rattle.clap.specs.declared.builder.command.Command.{Command}
 use Rattle.clap.specs.declared.builder.command.Command.TheOpen.{Command-F}
 use Rattle.clap.specs.declared.builder.command.Command.TheViews.{out-Command as fields_of}
 use Rattle.mencius_command_line.specs.ClientOptions.{clients_option, most_option}
-use Rattle.mencius_command_line.specs.CommandLine.{brief_option, json_option}
+use Rattle.mencius_command_line.specs.CommandLine.{brief_option}
+use Rattle.mencius_command_line.specs.Flags.{json_option}
 use Rattle.mencius_command_line.proofs.line.judge_command.Goals as goal
 
 abbrev has_globals : Command-F Command → Bool
