@@ -18,7 +18,7 @@ use std::test::Fail;
 use std::thread::Threads;
 
 // The view of the text of a whole trace.
-const WHOLE: View = View {
+const WHOLE_TEXT: View = View {
     is_json: false,
     instance: None,
     command: None,
@@ -187,7 +187,7 @@ fn make<R: Abort + Threads + Wait + Sync>(
 ) -> Result<(), AppFault> {
     let made = match call {
         Call::Replay => return replay(alloc, source, sink),
-        Call::Trace => trace(alloc, source, sink, &WHOLE),
+        Call::Trace => trace(alloc, source, sink, &WHOLE_TEXT),
         Call::Check => check(alloc, source, sink),
         Call::Judge => judged_in(rt, judge(alloc, source, sink, false, false)),
         Call::Draw => draw(alloc, source, sink, &WHOLE),
