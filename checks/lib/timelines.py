@@ -25,7 +25,7 @@ PLACES = """const [stage, rows] = ['log-stage', 'log-rows'].map(id => document.g
   return [0, 0.13, 0.5, 0.77, 1].map(share => {
     stage.scrollTop = share * stage.scrollHeight;
     stage.onscroll();
-    const bars = [...document.querySelectorAll('#lanes .bar')].map(bar => bar.textContent);
+    const bars = [...document.querySelectorAll('#log-lanes .bar')].map(bar => bar.textContent);
     return [numberOf(rows.firstChild), numberOf(rows.lastChild), bars, document.querySelectorAll('#timeline *').length];
   })"""
 # The least contrast of the texts of the timeline with what is behind them, as [count, contrast].
@@ -38,7 +38,7 @@ CONTRASTS = """const parts = colour => colour.match(/[\\d.]+/g).map(Number);
   const ratio = part => { const [a, b] = [light(parts(getComputedStyle(part).color)), light(under(part))]
     .sort((x, y) => y - x); return (a + 0.05) / (b + 0.05); };
   const texts = [...document.querySelectorAll('#log-head p, #quoted-lines button, #lane-heads > *, #log-rows li,'
-    + '#log-rows b, #lanes .bar span, #lanes .mark, #command-card')]
+    + '#log-rows b, #log-lanes .bar span, #log-lanes .mark, #command-card')]
     .filter(part => part.textContent.trim() && part.offsetWidth > 0);
   return [texts.length, Math.min(...texts.map(ratio))]"""
 
@@ -75,7 +75,7 @@ def look_at_bars(browser):
     log = read("logs", "right_reply.log")
     drop_log(browser, "right_reply.log", log, "violation 6 RightReply ")
     bars, marks, rows, heads = browser.run(
-        BOXES + "return ['#lanes .bar', '#lanes .mark', '#log-rows li', '#lane-heads b'].map(boxes)")
+        BOXES + "return ['#log-lanes .bar', '#log-lanes .mark', '#log-rows li', '#lane-heads b'].map(boxes)")
     lines = log.splitlines()
     same(browser, "the rows of the timeline", [f"{at} {line}" for at, line in enumerate(lines, 1)],
          [row["text"].replace("quoted: ", "") for row in rows])
@@ -111,7 +111,7 @@ def look_at_quoted_lines(browser):
     points, boxes, rows = browser.run(BOXES + """const chain = box(document.getElementById('chain'));
       const points = document.querySelector('#chain polyline').getAttribute('points').split(' ')
         .map(pair => pair.split(',').map(Number)).map(([x, y]) => [chain.left + x, chain.top + y]);
-      return [points, boxes('#lanes .quoted'), boxes('#log-rows .quoted-row')]""")
+      return [points, boxes('#log-lanes .quoted'), boxes('#log-rows .quoted-row')]""")
     found = [[box["text"] for box in boxes if box["left"] < x < box["right"] and box["top"] < y < box["bottom"]]
              for x, y in points]
     same(browser, "the marks that the chain connects", [["1.0 set a x"], ["2.0 set a y"], ["2.0"], ["2.0 set a y"]],
@@ -124,7 +124,7 @@ def look_at_keys(browser):
     """The keys do not step the schedule, which is out of sight. A focused bar tells what the log shows of its command.
     """
     before = cursor(browser)
-    browser.run("document.querySelector('#lanes [data-bar=\"2.0\"]').focus()")
+    browser.run("document.querySelector('#log-lanes [data-bar=\"2.0\"]').focus()")
     same(browser, "the story of the focused command",
          "2.0 set a y: submitted in line 3; executed by server 0 in line 5; reply none in line 6",
          browser.text("#command-card"))

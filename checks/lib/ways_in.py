@@ -70,7 +70,7 @@ def judge(browser):
     browser.wait("return document.getElementById('timeline-verdict').textContent.startsWith('violation ')",
                  "a violation")
     same(browser, "whether the log and its timeline are seen, and the picture is not", [True, True, False],
-         [is_seen(browser, selector) for selector in ("#judge", "#lanes .bar", "#picture")])
+         [is_seen(browser, selector) for selector in ("#judge", "#log-lanes .bar", "#picture")])
     same(browser, "whether lines are quoted", True, is_seen(browser, "#log-rows .quoted-row"))
     browser.click("#tab-lesson")
     same(browser, "whether the picture comes back", [False, True],

@@ -23,7 +23,7 @@ function goToNextQuoted() {
 function lightCommand(id) {
   if (id === board.lit || (id === null && board.lit === null)) return;
   board.lit = id;
-  for (const part of $('lanes').querySelectorAll('[data-id]')) part.classList.toggle('lit', part.dataset.id === id);
+  for (const part of $('log-lanes').querySelectorAll('[data-id]')) part.classList.toggle('lit', part.dataset.id === id);
   showCard();
 }
 
@@ -60,7 +60,7 @@ function scrollStage(stage, by) {
 }
 
 function wireTimeline() {
-  const lanes = $('lanes'), idOf = ({ target }) => target.closest('[data-id]')?.dataset.id ?? null;
+  const lanes = $('log-lanes'), idOf = ({ target }) => target.closest('[data-id]')?.dataset.id ?? null;
   $('log-stage').onscroll = () => showRows();
   lanes.onmouseover = event => lightCommand(idOf(event));
   lanes.addEventListener('focusin', event => lightCommand(idOf(event)));

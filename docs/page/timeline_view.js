@@ -103,8 +103,8 @@ function showRows(isForced = false) {
   $('log-rows').replaceChildren(...rows);
   const bars = timeline.bars.filter(bar => bar.column !== null && bar.from <= last && bar.to >= first).map(barOf);
   const marks = timeline.marks.slice(first, last + 1).flatMap(mark => (mark ? partsOf(mark) : []));
-  $('lanes').replaceChildren(...laneLines(timeline), chainOf(timeline), ...marks, ...bars);
-  if (focused) $('lanes').querySelector(`[data-bar="${CSS.escape(focused)}"]`)?.focus({ preventScroll: true });
+  $('log-lanes').replaceChildren(...laneLines(timeline), chainOf(timeline), ...marks, ...bars);
+  if (focused) $('log-lanes').querySelector(`[data-bar="${CSS.escape(focused)}"]`)?.focus({ preventScroll: true });
 }
 
 const styleAt = (left, row, width, rows = 1) =>
@@ -197,13 +197,13 @@ function drawOverview() {
   for (const [name, d] of [['bars', bars], ['executions', executions], ['quotes', quoted]]) {
     picture.append(svgOf('path', { class: name, d }));
   }
-  $('overview').replaceChildren(picture, el('i', { id: 'view' }));
+  $('overview').replaceChildren(picture, el('i', { id: 'log-part' }));
   moveView();
 }
 
 // Moves the frame in the overview to the rows in sight.
 function moveView() {
-  const { scrollTop, clientHeight, scrollHeight } = $('log-stage'), view = $('view');
+  const { scrollTop, clientHeight, scrollHeight } = $('log-stage'), view = $('log-part');
   if (!view) return;
   view.style.top = `${100 * scrollTop / scrollHeight}%`;
   view.style.height = `${100 * clientHeight / scrollHeight}%`;
