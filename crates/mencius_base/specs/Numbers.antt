@@ -14,7 +14,8 @@ ServerId = ℕ
 abbrev pub Inst : Type 0
 Inst = ℕ
 
--- a ballot as one number. `round` and `leader` give its round and its leader
+-- a ballot as one number. It is the round times the number of servers, plus the server that leads it. Round 0 has only
+-- ballot 0, which the owner of the instance leads
 abbrev pub BallotNo : Type 0
 BallotNo = ℕ
 

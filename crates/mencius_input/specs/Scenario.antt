@@ -43,8 +43,8 @@ unfoldable pub has_only : List (List ℕ) → Members → Bool
 has_only names no_members = true
 has_only names (member name d ms) = list_any (bytes_eq name) names && has_only names ms
 
--- the scenario in an object. The object has only fields of both kinds and fields with the names `others`. The course is
--- read by the rules of the scenario's version
+-- the scenario in an object. The object has only the fields for the version, the servers and beta, and fields with the
+-- names `others`. The course, such as the events, is read from these by the rules of the scenario's version
 unfoldable pub scenario_of : {X : Type 0} → List (List ℕ) → (ℕ → Data → Option X) → Data → Option (Scenario X)
 scenario_of others course_of d = do
   fields ← as_object d

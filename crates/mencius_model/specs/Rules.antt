@@ -102,7 +102,8 @@ is_open_from m q i learned = owner m i == q && is_none learned
 
 -- The last place that a suspicion may cover, or `None` if it covers nothing. The last argument is the lowest open
 -- instance of the suspected server. If it is below front + beta, the result is front + 2 * beta. Otherwise, and if no
--- instance is open, it is `None`.
+-- instance is open, it is `None`. It is twice beta so that the next suspicion covers nothing until the front has moved by
+-- more than beta.
 abbrev pub reach_from : Membership → Inst → Option Inst → Option Inst
 reach_from m front None = None
 reach_from m front (Some i) = if nat_lt i (front + m.beta) then Some (front + 2 * m.beta) else None
@@ -112,6 +113,6 @@ reach_from m front (Some i) = if nat_lt i (front + m.beta) then Some (front + 2 
 abbrev pub is_covered_from : Membership → ServerId → Option Inst → Inst → Option Value → Bool
 is_covered_from m q reach i learned = (owner m i == q && option_map_or (nat_le i) reach false) && is_none learned
 
--- One above the round of the ballot that is tried and the round of the ballot that is promised.
+-- One more than the greater of two rounds: that of the ballot that is tried, and that of the ballot that is promised.
 abbrev pub next_round_from : Membership → BallotNo → BallotNo → ℕ
 next_round_from m tried promised = max (round m tried) (round m promised) + 1

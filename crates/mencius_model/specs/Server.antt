@@ -16,7 +16,8 @@ front_by m p (Sent (Suggest from inst ticket)) = if from == p then inst + m.coun
 front_by m p (Sent (Skip from first stop)) = if from == p then stop else 0
 front_by m p _ = 0
 
--- The front of p is its next own instance, after all instances that it suggested at or skipped. At the start it is p.
+-- The front of p is the first own instance after all that it suggested at or skipped. At the start it is p. The next
+-- suggestion may be at a later one (`free_instance`), because p may have learned a value at its front.
 abbrev pub front : Membership → Trace → ServerId → Inst
 front m w p = max p (greatest_by (front_by m p) w)
 
