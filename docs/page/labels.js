@@ -1,12 +1,12 @@
 'use strict';
-// Makes the labels of a picture readable. The program draws each arrow over the labels of earlier events, and leaves
-// too little space for long labels at the left. So the page draws the arrows first, puts paper behind each label, and
-// measures the labels to make the picture wider.
+// Makes the labels of a picture readable. The program leaves too little space for long labels at the left, and assumes
+// that each letter has the same width everywhere. So the page measures the labels. It gives the paper behind each label
+// its size, and makes the picture wider.
 
 // The sizes of the letters left and right of a mark, and the space between a label and the mark, as in the picture.
 const LETTERS = { cause: 11, says: 12 }, BESIDE = { cause: 24, says: 26 };
-// The space around a label, and the height of the paper behind it.
-const PADDING = 3, HIGH = 16;
+// The space around a label.
+const PADDING = 3;
 const SVG = 'http://www.w3.org/2000/svg';
 
 function svgEl(tag, attributes = {}, ...children) {
@@ -29,7 +29,7 @@ function letterWidth() {
 
 const widthOfLabel = (label, kind) => label.textContent.length * LETTERS[kind] * letterWidth();
 
-// Moves the arrows below the labels and marks.
+// Puts the arrows, which are below the labels and marks, into one group.
 function layArrowsBelow(svg) {
   const arrows = svg.querySelectorAll('.way');
   if (arrows.length > 0) svg.querySelector('.event').before(svgEl('g', { class: 'ways' }, ...arrows));
@@ -44,12 +44,13 @@ function widenArrows(svg) {
   ways.after(svgEl('g', { class: 'hits' }, ...hits));
 }
 
-// Puts paper behind each label that has no box of its own.
+// Gives the paper behind each label that has no box of its own the size of the label.
 function backLabels(svg) {
-  for (const label of svg.querySelectorAll('.cause, .count .says, .ignored .says, .refused .says, .reply .says')) {
+  for (const paper of svg.querySelectorAll('.backing')) {
+    const label = paper.nextElementSibling;
     const kind = label.classList.contains('cause') ? 'cause' : 'says', width = widthOfLabel(label, kind);
-    const x = kind === 'cause' ? -BESIDE.cause - width - PADDING : BESIDE.says - PADDING;
-    label.before(svgEl('rect', { class: 'backing', x, y: -HIGH / 2, width: width + 2 * PADDING - 1, height: HIGH }));
+    paper.setAttribute('x', kind === 'cause' ? -BESIDE.cause - width - PADDING : BESIDE.says - PADDING);
+    paper.setAttribute('width', width + 2 * PADDING - 1);
   }
 }
 

@@ -8,9 +8,8 @@ text{font:12px sans-serif}
 .name,.owns{text-anchor:middle}
 .name{font-weight:700;font-size:13px}
 .what{font-size:11px;clip-path:url(#column)}
-.cause{font-size:11px;paint-order:stroke;stroke-width:4;stroke-linejoin:round}
+.cause{font-size:11px}
 .says{white-space:pre}
-.refused .says,.ignored .says,.count .says,.reply .says{paint-order:stroke;stroke-width:4;stroke-linejoin:round}
 .count .says,.ignored .says{font-style:italic}
 .foot text{font-size:11px;clip-path:url(#card)}
 .line{stroke-width:2}
@@ -36,8 +35,7 @@ text{fill:#1f2933;fill:light-dark(#1f2933,#e4e8ec)}
 .place,.owns,.cause,.what{fill:#55606c;fill:light-dark(#55606c,#a7b1bb)}
 .count .says{fill:#55606c;fill:light-dark(#55606c,#a7b1bb)}
 .refused .says,.ignored .says{fill:#b3261e;fill:light-dark(#b3261e,#ff8a80)}
-.cause,.refused .says,.ignored .says,.count .says,.reply .says{stroke:#fff;stroke:light-dark(#fff,#15191e)}
-.paper,.card{fill:#fff;fill:light-dark(#fff,#15191e)}
+.paper,.card,.backing{fill:#fff;fill:light-dark(#fff,#15191e)}
 .card{stroke:#c4ccd4;stroke:light-dark(#c4ccd4,#3b444e)}
 stop{stop-color:#fff;stop-color:light-dark(#fff,#15191e)}
 .rule{stroke:#e6eaee;stroke:light-dark(#e6eaee,#262c33)}
@@ -79,8 +77,7 @@ text{fill:#e4e8ec}
 .place,.owns,.cause,.what{fill:#a7b1bb}
 .count .says{fill:#a7b1bb}
 .refused .says,.ignored .says{fill:#ff8a80}
-.cause,.refused .says,.ignored .says,.count .says,.reply .says{stroke:#15191e}
-.paper,.card{fill:#15191e}
+.paper,.card,.backing{fill:#15191e}
 .card{stroke:#3b444e}
 stop{stop-color:#15191e}
 .rule{stroke:#262c33}

@@ -30,6 +30,24 @@ fn act_class(act: Act) -> &'static str {
     }
 }
 
+// Adds the words left of the mark of an event. `rest` are their attributes. The backing hides the arrows behind them.
+fn push_cause_words(
+    alloc: Global,
+    text: &mut String,
+    rest: &str,
+    words: &str,
+) -> Result<(), AllocError>
+    ensures { OnOk result (Keeps (string_bytes text.old) (string_bytes text.new)) }
+{
+    let width = words.len().min(1000) * 20 / 3 + 6;
+    let left = width + 21;
+    let backing = format!(in alloc;
+        "rect class='backing' x='-{left}' y='-8' width='{width}' height='16'"
+    )?;
+    push_leaf(text, backing.as_str())?;
+    push_label(text, rest, words)
+}
+
 // Adds the message that was heard or lost. Also adds the event that sent it, if the arrow does not show this event.
 fn push_message(
     alloc: Global,
@@ -52,7 +70,7 @@ fn push_message(
     } else {
         format!(in alloc; "{fate} {number} {kind} from event {place}")?
     };
-    push_label(text, rest.as_str(), words.as_str())
+    push_cause_words(alloc, text, rest.as_str(), words.as_str())
 }
 
 fn act_words(alloc: Global, act: Act) -> Result<String, AllocError> {
@@ -69,7 +87,7 @@ fn push_act(alloc: Global, text: &mut String, act: Act) -> Result<(), AllocError
     ensures { OnOk result (Keeps (string_bytes text.old) (string_bytes text.new)) }
 {
     let words = act_words(alloc, act)?;
-    push_label(text, " class='cause' x='-24' y='4'", words.as_str())
+    push_cause_words(alloc, text, " class='cause' x='-24' y='4'", words.as_str())
 }
 
 // Adds the text left of an event's mark, which names the event.
@@ -372,6 +390,18 @@ fn push_over(
     }
 }
 
+// Adds a label without a box. The backing hides the arrows and lanes behind it.
+fn push_plain_words(alloc: Global, text: &mut String, label: &str) -> Result<(), AllocError>
+    ensures { OnOk result (Keeps (string_bytes text.old) (string_bytes text.new)) }
+{
+    let width = label.len().min(1000) * 29 / 4 + 6;
+    let backing = format!(in alloc;
+        "rect class='backing' x='23' y='-8' width='{width}' height='16'"
+    )?;
+    push_leaf(text, backing.as_str())?;
+    push_label(text, " class='says' x='26' y='4'", label)
+}
+
 // Adds a filled box if the event learned or executed an instance, and plain words for any other outcome.
 fn push_note_words(
     alloc: Global,
@@ -388,7 +418,7 @@ fn push_note_words(
             push_filled_box(alloc, text, servers, inst, label.as_str())
         }
         Note::Refused | Note::Ignored | Note::Count | Note::Reply => {
-            push_label(text, " class='says' x='26' y='4'", label.as_str())
+            push_plain_words(alloc, text, label.as_str())
         }
     }
 }
