@@ -9,8 +9,13 @@ what ./check kept in FOLDER:
 
     said              the output of `rt ci`
     began             the time at which the run began, in seconds since 1970
+    commit            the commit at that time
     passed            a line for each check that passed
+    skipped           a line for each part that a check skipped, if there is one
     before, after     the output of `times` of sh before and after the check `crates`
+
+It writes no record if the commit or a file has changed since the run began, or if the output of `rt ci` lacks a crate
+or contains another number of edits than its last lines say.
 """
 import os
 import re
@@ -40,10 +45,11 @@ CRATES = """
 ```
 
 An *edit* breaks the code of a crate on purpose, and the checker must refuse it. A function that *may wait* can wait for
-another thread, so termination is not proved of it. An empty cell means none.{kept}
+another thread, so termination is not proved of it. The tests are proved together with the functions of their crate. An
+empty cell means none.{kept}
 
-| Crate | Proved functions | Of these, may wait | Edits refused | Tests passed |
-|---|---:|---:|---:|---:|
+| Crate | Proved functions | Of these, may wait | Edits refused | Functions with the tests | Tests passed |
+|---|---:|---:|---:|---:|---:|
 """
 CHECKS = """
 ## All checks
@@ -52,7 +58,15 @@ Each line is a check that passed, in the order of the run:
 
 ```text
 {passed}```
+
+{skipped}
 """
+NONE_SKIPPED = "No check skipped a part."
+SKIPPED = """Parts of these checks were skipped:
+
+```text
+{skipped}
+```"""
 
 
 def command(*words):
@@ -70,19 +84,24 @@ def can_record():
 
 # ---- the output of rt ci
 
+# The numbers of a crate, in the order of the columns of the table.
+KINDS = ("functions", "waits", "edits", "of_tests", "tests")
+
+
 def crates_of(said):
-    """The crates in the output of `rt ci`, each with its numbers: functions, waits, edits and tests. A crate that was
-    kept from an earlier run has no number of functions."""
-    crates, crate, tests = {}, None, None
+    """The crates in the output of `rt ci`, each with its numbers of some KINDS. Proofs that were kept from an earlier
+    run have no number of functions."""
+    crates, crate, of_tests, tests = {}, None, None, None
     for line in said.splitlines():
         if found := re.match(r"== (\w+)(: its tests)?$", line):
-            crate = None if found[2] else crates.setdefault(found[1], {})
+            crate, of_tests = crates.setdefault(found[1], {}), bool(found[2])
         elif found := re.match(r"rt: (\w+) is kept: ", line):
             crates.setdefault(found[1], {})
-        elif crate is not None and (found := re.match(r"logic=proved functions=(\d+) (.*)", line)):
-            crate["functions"] = int(found[1])
+        elif crate is not None and (found := re.match(r"logic=proved .*?\bfunctions=(\d+) (.*)", line)):
+            crate["of_tests" if of_tests else "functions"] = int(found[1])
             waits = re.search(r"\bmay-wait=(\d+)", found[2])
-            crate["waits"] = int(waits[1]) if waits else 0
+            if waits and not of_tests:
+                crate["waits"] = int(waits[1])
         elif found := re.match(r"rt: must-fail (\w+)/\S+: refused, as it must be", line):
             of = crates.setdefault(found[1], {})
             of["edits"] = of.get("edits", 0) + 1
@@ -94,10 +113,23 @@ def crates_of(said):
     return crates
 
 
+def checked(said, names):
+    """The crates in the output of `rt ci`, in the order of these names. Fails if the output is of other crates, or if
+    its last lines count other edits."""
+    crates = crates_of(said)
+    if set(crates) != set(names):
+        sys.exit(f"check: the output of rt ci is not of these crates: {', '.join(sorted(set(crates) ^ set(names)))}")
+    edits = sum(numbers.get("edits", 0) for numbers in crates.values())
+    counted = re.search(r"; must-fail edits: (\d+) refused", said)
+    if edits != (int(counted[1]) if counted else 0):
+        sys.exit(f"check: the output of rt ci has {edits} edits that were refused, but it counts others")
+    return {name: crates[name] for name in names}
+
+
 def rows(crates):
     for name, numbers in crates.items():
-        cells = ["kept" if "functions" not in numbers else str(numbers["functions"])]
-        cells += [str(numbers.get(kind) or "") for kind in ("waits", "edits", "tests")]
+        kept = {"functions": "kept", "of_tests": "kept" if "tests" in numbers else ""}
+        cells = [str(numbers.get(kind, kept.get(kind)) or "") for kind in KINDS]
         yield f"| `{name}` | {' | '.join(cells)} |\n"
 
 
@@ -126,12 +158,13 @@ def machine():
 
 
 def facts(read):
-    begin = time.strftime("%Y-%m-%d, from %H:%M UTC", time.gmtime(float(read("began"))))
+    begin, end = time.gmtime(float(read("began"))), time.gmtime()
+    day = "" if begin[:3] == end[:3] else "%Y-%m-%d, "
     spent = minutes(read("after")) - minutes(read("before"))
     (by_clock,) = re.findall(r"^check: crates passed after (\d+) s$", read("passed"), re.M)
     return {
-        "Sources": f"commit `{command('git', 'rev-parse', 'HEAD')}`",
-        "Date": f"{begin} to {time.strftime('%H:%M UTC', time.gmtime())}",
+        "Sources": f"commit `{read('commit').strip()}`",
+        "Date": f"{time.strftime('%Y-%m-%d, from %H:%M UTC', begin)} to {time.strftime(day + '%H:%M UTC', end)}",
         "Kit": f"`{command('rt', 'version')}`, the output of `rt version`",
         "Machine": machine(),
         "Command": "`./check --record`, which starts `rt ci` for the crates",
@@ -140,14 +173,22 @@ def facts(read):
     }
 
 
-def page(read):
+def page(read, names):
     said = read("said")
-    crates = crates_of(said)
-    is_kept = any("functions" not in numbers for numbers in crates.values())
-    kept = "\n*Kept* means that an earlier run on this machine proved the same files." if is_kept else ""
+    crates = checked(said, names)
+    table = "".join(rows(crates))
+    kept = "\n*Kept* means that an earlier run on this machine proved the same files." if " kept " in table else ""
+    skipped = read("skipped").strip()
+    skipped = SKIPPED.format(skipped=skipped) if skipped else NONE_SKIPPED
     return (HEAD + "".join(f"| {name} | {value} |\n" for name, value in facts(read).items())
-            + CRATES.format(end="\n".join(said.splitlines()[-2:]), kept=kept) + "".join(rows(crates))
-            + CHECKS.format(passed=read("passed")))
+            + CRATES.format(end="\n".join(said.splitlines()[-2:]), kept=kept) + table
+            + CHECKS.format(passed=read("passed"), skipped=skipped))
+
+
+def names_of(crates_txt):
+    """The crates of crates.txt, in its order."""
+    heads = (line.split("#")[0].partition(":")[0].split() for line in crates_txt.splitlines())
+    return [head[0] for head in heads if head]
 
 
 def main(words):
@@ -160,7 +201,11 @@ def main(words):
         with open(os.path.join(folder, name), encoding="utf-8", errors="replace") as file:
             return file.read()
 
-    text = page(read)
+    can_record()
+    if command("git", "rev-parse", "HEAD") != read("commit").strip():
+        sys.exit("check: the commit has changed since the run began, so there is no record")
+    with open(os.path.join(TOP, "crates.txt"), encoding="utf-8") as file:
+        text = page(read, names_of(file.read()))
     with open(PAGE, "w", encoding="utf-8") as file:
         file.write(text)
     print("check: wrote docs/PROOF_RUN.md")

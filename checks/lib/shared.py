@@ -40,7 +40,11 @@ def fail(text):
 
 
 def say(text):
+    """Prints a line. ./check names a file in CHECK_SKIPPED, which collects the lines about skipped parts."""
     print(f"{NAME}: {text}", flush=True)
+    if text.startswith("SKIPPED: ") and "CHECK_SKIPPED" in os.environ:
+        with open(os.environ["CHECK_SKIPPED"], "a", encoding="utf-8") as file:
+            file.write(f"{NAME}: {text}\n")
 
 
 # ---- a check, from its command line to its end
