@@ -130,19 +130,43 @@ fn traced_command(
         ≡ view_text view.now (suggested_instances (trace_from members [] events) id) members events) }
 {
     let salt = salt_after(0, events.commands());
+    let (events, suggested) = events_and_suggestions(alloc, members, salt, events, id)?;
+    kept_trace(alloc, members, salt, events, view, suggested.as_slice())
+}
+
+// Returns the events, and the instances that a command is suggested for while a new cluster steps through them.
+fn events_and_suggestions(
+    alloc: Global,
+    members: Members,
+    salt: u64,
+    events: Events,
+    id: CommandId,
+) -> Result<(Vec<Event>, Vec<u32>), NoMemory>
+    requires salt { salt ≡ salt_of_events events }
+    ensures kept { IfOk result (λ x. x.0.items ≡ events) }
+    ensures suggested { IfOk result (λ x. x.1.items ≡ suggested_instances (trace_from members [] events) id) }
+{
     let mut cluster = Cluster::with_salt(alloc, members, salt)?;
-    let events = step_and_keep(alloc, &mut cluster, events)?;
+    let kept = step_and_keep(alloc, &mut cluster, events)?;
     let suggested = suggested_instances(alloc, &cluster, id)?;
+    Ok((kept, suggested))
+}
+
+// Makes the text of the trace of a view that chooses a command, which is suggested for these instances.
+fn kept_trace(
+    alloc: Global,
+    members: Members,
+    salt: u64,
+    events: Vec<Event>,
+    view: &View,
+    suggested: &[u32],
+) -> Result<String, NoMemory>
+    requires salt { salt ≡ salt_of_events events.items }
+    ensures text { IfOk result (λ s. string_bytes s ≡ view_text view.now suggested.now members events.items) }
+{
     let mut cluster = Cluster::with_salt(alloc, members, salt)?;
     let mut text = String::new(alloc);
-    push_kept_trace(
-        alloc,
-        &mut text,
-        view,
-        suggested.as_slice(),
-        &mut cluster,
-        events,
-    )?;
+    push_kept_trace(alloc, &mut text, view, suggested, &mut cluster, events)?;
     Ok(text)
 }
 
