@@ -38,13 +38,15 @@ class Texts:
 @dataclasses.dataclass
 class Difference:
     """The first difference of a store: its sort, its description, the index of the event (None if it is not known), the
-    lines that should agree, and the lines of standard error, if the store failed."""
+    lines that should agree, and the lines of standard error, if the store failed. `is_at_end` says that the lines come
+    after those of the last event."""
     about: str
     words: str
     event: int = None
     expected: list = dataclasses.field(default_factory=list)
     found: list = dataclasses.field(default_factory=list)
     said: list = dataclasses.field(default_factory=list)
+    is_at_end: bool = False
 
     def is_failure(self):
         """Whether the store printed nothing that can be compared."""
@@ -108,7 +110,7 @@ def differ_in_trace(expected, kinds, found):
             return Difference(LINES, "its trace has other lines", index, compared(ours), compared(theirs))
     if not all_agree(compared(expected.closing), compared(found.closing)):
         return Difference(LINES, "its trace has other lines at the end", max(len(expected.events) - 1, 0),
-                          compared(expected.closing), compared(found.closing))
+                          compared(expected.closing), compared(found.closing), is_at_end=True)
     return None
 
 

@@ -168,7 +168,7 @@ class Comparison:
         event = self.locate(finding.schedule, finding.difference.event)
         # The shortest schedule so far now ends with that event, and its report shows the difference there.
         shown = finding.difference if finding.difference.is_failure() else finding.short_difference
-        finding.difference = dataclasses.replace(shown, event=event, words=finding.difference.words)
+        finding.difference = dataclasses.replace(shown, event=event)
         self.shorten(finding.short)
         if not finding.difference.is_failure():
             self.restart(others())

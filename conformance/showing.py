@@ -62,7 +62,7 @@ def describe(difference, schedule, expected, before):
     it, and the lines that differ."""
     last = max(len(schedule.events) - 1, 0) if difference.event is None else difference.event
     first, lines = context(expected.events, last, before)
-    if difference.about != answers.LINES and last < len(expected.events):
+    if (difference.about != answers.LINES or difference.is_at_end) and last < len(expected.events):
         lines += lines_of_event(expected.events[last])
     if difference.is_failure():
         lines += expected.report * (not schedule.events)
