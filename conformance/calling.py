@@ -5,6 +5,7 @@ Each way is a function of the arguments and of the standard input. It returns th
 and raises OSError if the call fails. Several threads may call it.
 """
 import base64
+import contextlib
 import functools
 import importlib.machinery
 import json
@@ -36,17 +37,16 @@ def by_library():
 
 
 def by_module():
-    """Calls the module in a process of node, which starts at the first call."""
-    @functools.cache
-    def node():
-        return subprocess.Popen(["node", os.path.join(TOP, "embedding", "answers.mjs")], stdin=subprocess.PIPE,
-                                stdout=subprocess.PIPE, start_new_session=True)
+    """Calls the module in a process of node. The process starts now, and is ready soon after."""
+    node = subprocess.Popen(["node", os.path.join(TOP, "embedding", "answers.mjs")], stdin=subprocess.PIPE,
+                            stdout=subprocess.PIPE, start_new_session=True)
 
     def call(words, data):
         question = [[coded(os.fsencode(word)) for word in words], coded(data)]
-        node().stdin.write(json.dumps(question).encode() + b"\n")
-        node().stdin.flush()
-        answer = node().stdout.readline()
+        with contextlib.suppress(BrokenPipeError):
+            node.stdin.write(json.dumps(question).encode() + b"\n")
+            node.stdin.flush()
+        answer = node.stdout.readline()
         if not answer:
             raise OSError("the process of node that calls the module has ended")
         status, printed, _ = json.loads(answer)
@@ -68,6 +68,7 @@ def coded(data):
     return base64.b64encode(data).decode()
 
 
+@functools.cache
 def at_once():
     """A way that does not start the program for each call, or None. This is the library if MENCIUS_LIBRARY names one.
     Otherwise it is the module, if node is installed and the module was built from the current sources."""
