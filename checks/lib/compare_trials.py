@@ -1,0 +1,236 @@
+"""More trials of checks/comparisons: lines at the end of a trace, how short a schedule is said to be, the JSON object,
+the progress, an interruption while a schedule is shortened, files that cannot be written, wrong command lines, and
+failures of the program that gives the expected output."""
+import glob
+import json
+import os
+import re
+import shutil
+import sys
+
+from shared import expect, fail, start_to
+from small_stores import (CONFORMANCE, SUITE, HEAD, FIRST_LINES, HINT, KEEP_HINT, MARKS, SCHEDULES, SMALLEST, HEADING,
+                          count, link)
+
+GOOD = HEAD + "show(lines(read()))\n"
+WRONG_SECOND_EVENT = "line.replace('event 1 ', 'event 2 ') for line in lines(read())"
+# A program like `mencius`, whose trace ends with a line about each server.
+PROGRAM = HEAD + """
+import re, store
+replayed = store.replay(read())
+servers = [line for line in replayed.report() if line.startswith("server ")]
+ends = [re.sub("done (.*) history .*", r"executed \\1 next \\1 waiting -", line) for line in servers]
+"""
+USAGE = "usage: compare [OPTION ..] -- STORE [WORD ..]\ncompare: error: "
+
+
+# ---- what a difference shows
+
+def at_the_end(stores):
+    """The lines of the last event are shown, too, with those that come after them."""
+    stores.write("program", PROGRAM + "show([*replayed.trace, *ends] if sys.argv[1] == 'trace' else replayed.report())\n")
+    body = PROGRAM[len(HEAD):] + ("show([*replayed.trace, *ends, *['unheard 0 Suggest to 0'"
+                                  " for line in replayed.trace[1:2] if line.startswith('sent ')]])\n")
+    last = count(SMALLEST) - 1
+    with open(os.path.join(SUITE, SMALLEST + ".trace"), encoding="utf-8") as file:
+        shown = "".join(f"  {line}\n" for line in file.read().partition(f"event {last - 3} ")[1:][1].splitlines())
+    ends = "".join(f"  {line}\n" for line in SCHEDULES[SMALLEST][1].splitlines() if line.startswith("server "))
+    ends = re.sub("done (.*) history .*", r"executed \1 next \1 waiting -", ends)
+    wanted = (f"{HEADING} differs at event {last}: its trace has other lines at the end\n{MARKS}  event {last - 3} "
+              + shown.lstrip() + ends + "+ unheard 0 Suggest to 0\n\n"
+              f"shortened to 1 event (the least) in FILE:\n{FIRST_LINES}"
+              "  server 0 front 1 executed 0 next 0 waiting -\n+ unheard 0 Suggest to 0\n"
+              + link(1, "submit 0 1.0 get a"))
+    stores.shows("longer_trace", body, wanted, "--program", "./program")
+
+
+def two_events(stores):
+    """Two events are not called the least, because one event may show a difference that nobody has tried."""
+    stores.write("two_events", HEAD + f"show({WRONG_SECOND_EVENT})\n")
+    expect("compare two_events", f"""\
+shortened to 2 events (no event can be left out) in FILE:
+{FIRST_LINES}- event 1 deliver 0 0
++ event 2 deliver 0 0
+  sent 1 Accepted from 0 to 0 instance 0 ballot 0
+""" + link(1, "submit 0 1.0 get a", "deliver 0 0"), stores.compare("two_events", [], 1).partition("\n\n")[2])
+
+
+def failing_later(stores):
+    """A store that has agreed before knows how to read schedules. So the text has a link in place of the hint."""
+    stores.write("failing_later", HEAD + "given = read()\nshow(lines(given))\n"
+                 "if ' cas ' in str(given): sys.exit('no cas')\n")
+    found = stores.compare("failing_later", [], 1)
+    expect("compare failing_later", """\
+standard error:
+! no cas
+
+shortened to 1 event (the least) in FILE. The expected output includes:
+  event 0 submit 0 1.0 cas a x x
+  sent 0 Suggest from 0 to all instance 0 ballot 0 value 1.0
+To repeat it: STORE < FILE
+""" + link(1, "submit 0 1.0 cas a x x"), found.partition("\n")[2])
+    if HINT in found or not re.match(r"cas_\w+ \(\d+ events\) fails at event \d+: the store ended with status 1\n", found):
+        fail(f"compare failing_later\n{found}")
+
+
+def kept_failing(stores):
+    """With --keep, there is no command line that repeats the failure."""
+    stores.write("refusing", HEAD + "serve(lambda number, shown: {'id': number, 'error': 'no\\tpeers'})\n")
+    expect("compare refusing", f"""\
+{HEADING} fails: the store answered with an error
+standard output:
++ no\\tpeers
+
+shortened to 0 events (the least) in FILE. The expected output includes:
+  servers 1 messages 0 events 0
+  server 0 front 0 done 0 history -
+{KEEP_HINT}""", stores.compare("refusing", ["--keep", "--jobs", "1"], 1).replace(" fails at event 0:", " fails:"))
+
+
+def kept_and_shared(stores):
+    """A store that fails only if two of its processes are alive."""
+    stores.write("shared", HEAD + """
+open('shared_' + str(os.getpid()), 'w').close()
+def answer(number, shown):
+    number_alive = len([name for name in os.listdir('.') if name.startswith('shared_')])
+    time.sleep(0.2)
+    return {'id': number, 'lines': ['event 0 wrong'] if number_alive == 2 else shown}
+serve(answer)
+""")
+    found = stores.compare("shared", ["--keep", "--jobs", "2", "--seeds", "40"], 1)
+    wanted = ("In a new process of the store, the store did not differ in this way. The schedule is in FILE.\n"
+              "Perhaps the store keeps something of the schedules before.\n"
+              "Perhaps several runs of the store share a port or a file. Then add --jobs 1.\n")
+    if not found.endswith("\n" + wanted):
+        fail(f"a store that keeps something, with two jobs\nwanted: .. {wanted}\nfound: {found}")
+
+
+def as_json(stores):
+    stores.write("in_json", HEAD + f"print('late', file=sys.stderr)\nshow({WRONG_SECOND_EVENT})\n")
+    found = json.loads(stores.compare("in_json", ["--json", "--jobs", "1"], 1))
+    shortest = found["shortest"]
+    expect("compare --json", json.dumps({
+        "about": "lines", "words": "its trace has other lines", "event": 1, "servers": 1, "beta": 0,
+        "events": ["submit 0 1.0 get a", "deliver 0 0"], "standard_error": [],
+        "expected": ["event 1 deliver 0 0", "sent 1 Accepted from 0 to 0 instance 0 ballot 0"],
+        "found": ["event 2 deliver 0 0", "sent 1 Accepted from 0 to 0 instance 0 ballot 0"]}, sort_keys=True),
+        json.dumps({name: value for name, value in shortest.items() if name != "schedule"}, sort_keys=True))
+    wanted = {"agreed": 0, "interrupted": False, "is_least": False, "is_minimal": True, "is_steady": True, "file": "FILE",
+              "link": link(1, *shortest["events"]).removeprefix("To look at it: ").rstrip()}
+    expect("compare --json, the rest", json.dumps(wanted), json.dumps({name: found[name] for name in wanted}))
+    expect("compare --json, the schedule", SMALLEST, found["difference"]["schedule"])
+    stores.write("failing_in_json", HEAD + "sys.exit('no peers')\n")
+    failure = json.loads(stores.compare("failing_in_json", ["--json", "--shorten", "0"], 1))["difference"]
+    expect("compare --json of a failure", "crash 0 the store ended with status 1 ['no peers']",
+           "{about} {event} {words} {standard_error}".format(**failure))
+
+
+# ---- progress and interruptions
+
+def progress(stores):
+    """Each run of the store takes more than a second, so each step has a line."""
+    stores.write("slow_one", HEAD + "given = read()\ntime.sleep(1.1)\n"
+                 "show(line.replace('event 7 ', 'event 8 ') for line in lines(given))\n")
+    options = ["--progress", "--jobs", "1", "--shorten", "4"]
+    found = stores.compare("slow_one", options, 1).splitlines()
+    said = [line for line in found if line.startswith("compare: ")]
+    name, length = next(line for line in found if " differs at event 7: " in line).split(" ")[:2]
+    for part in (r"compare: 1 of \d+ schedules agree", f"compare: {name} differs, looking for the event",
+                 rf"compare: shortening {name}: {length[1:]} events, now 8"):
+        if not any(re.fullmatch(part, line) for line in said):
+            fail(f"compare --progress has no line {part!r}\n" + "\n".join(said))
+    if "compare: " in stores.compare("slow_one", ["--seeds", "1", "--events", "1"], 0):
+        fail("compare shows its progress although standard error is not a terminal")
+
+
+def interrupted_late(stores):
+    """After an interruption, the shortest schedule so far is shown. The fifth run of the store interrupts."""
+    stores.write("interrupting_late", HEAD + f"""
+import signal
+open('late_%d' % os.getpid(), 'w').close()
+if len([name for name in os.listdir('.') if name.startswith('late_')]) == 5:
+    os.kill(os.getppid(), signal.SIGINT)
+    time.sleep(100)
+show({WRONG_SECOND_EVENT})
+""")
+    found = stores.compare("interrupting_late", ["--jobs", "1", "--seconds", "60"], 1)
+    if not found.startswith(f"{HEADING} differs at event 1: ") or "\nshortened to 2 events (--shorten gives more time)" \
+            " in FILE:\n" not in found:
+        fail(f"a comparison that is interrupted late\n{found}")
+
+
+# ---- messages on standard error
+
+def wrong_calls(stores):
+    for options, why in (
+            (["--"], "no store: put its command line after --"),
+            ([], "no store: put its command line after --"),
+            (["--seeds", "0", "--", "x"], "argument --seeds: invalid number from 1 value: '0'"),
+            (["--servers", "8", "--", "x"], "argument --servers: invalid number from 1 to 7 value: '8'"),
+            (["--seed", "3", "--", "x"], "unrecognized arguments: --seed 3")):
+        ended = start_to([os.path.join(CONFORMANCE, "compare"), *options], "", 2, cwd=stores.folder, env=stores.around)
+        expect(f"compare {' '.join(options)}", USAGE + why + "\n", ended.printed + ended.said)
+
+
+def not_written(stores):
+    """Files that cannot be written are reported before the search. Standard output may be full."""
+    stores.write("agreeing", GOOD)
+    for options, what in ((["--out", "none/x.json"], "none/x.json: No such file or directory"),
+                          (["--out", "bin"], "bin: Is a directory"),
+                          (["--picture", "none/x.svg"], "none/x.svg: No such file or directory")):
+        expect(f"compare {' '.join(options)}", f"compare: cannot write {what}\n",
+               stores.compare("agreeing", ["--seeds", "1", *options], 2))
+    if os.path.exists("/dev/full"):
+        words = ["/bin/sh", "-c", '"$@" > /dev/full', "sh", os.path.join(CONFORMANCE, "compare"), "--seeds", "1", "--",
+                 "./agreeing"]
+        ended = start_to(words, "", 2, cwd=stores.folder, env=stores.around)
+        expect("a full standard output", "compare: [Errno 28] No space left on device\n", ended.said)
+        words[2] = '"$@" | :'
+        ended = start_to(words, "", 0, cwd=stores.folder, env=stores.around)
+        expect("a closed standard output", "", ended.said)
+
+
+def failing_program(stores):
+    stores.write("agreeing_too", GOOD)
+    for task in ("trace", "replay"):
+        stores.write(f"no_{task}", PROGRAM + f"if sys.argv[1] == '{task}': sys.exit(3)\nshow(replayed.trace)\n")
+        expect(f"a program that fails at {task}", f"compare: mencius {task} ended with status 3\n",
+               stores.compare("agreeing_too", ["--seeds", "1", "--program", f"./no_{task}"], 2))
+    expect("a program that does not exist", "compare: [Errno 2] No such file or directory: './no_program'\n",
+           stores.compare("agreeing_too", ["--seeds", "1", "--program", "./no_program"], 2))
+    found = stores.compare("agreeing_too", ["--seeds", "1"], 2, MENCIUS_LIBRARY="/no_library")
+    if not found.startswith("compare: /no_library: "):
+        fail(f"a library that does not exist\n{found}")
+
+
+def failing_node(stores):
+    """A copy of conformance/ has a module whose checksum is right, and a `node` that ends without an answer."""
+    stores.write("agreeing_again", GOOD)
+    top = os.path.join(stores.folder, "copy_with_module")
+    where, module = os.path.join(top, "conformance"), os.path.join(top, "module")
+    for folder in (where, module, os.path.join(stores.folder, "node")):
+        os.makedirs(folder)
+    for path in [*glob.glob(os.path.join(CONFORMANCE, "*.py")), os.path.join(CONFORMANCE, "compare")]:
+        shutil.copy(path, where)
+    for name in ("schedules", "edits"):
+        os.symlink(os.path.join(CONFORMANCE, name), os.path.join(where, name))
+    stores.write(os.path.join(module, "build"), "def sum_of_parts(path): return 'right'\n")
+    stores.write(os.path.join(module, "sum"), "right\n")
+    path = os.path.join(stores.folder, "node") + os.pathsep + stores.around["PATH"]
+    for name, text in (("at once", "#!/bin/sh\nexit 3\n"), ("after a line", "#!/bin/sh\nread line\nexit 3\n")):
+        stores.write(os.path.join("node", "node"), text)
+        expect(f"a node that ends {name}", "compare: the process of node that calls the module has ended\n",
+               stores.compare("agreeing_again", ["--seeds", "1"], 2, where, PATH=path))
+
+
+def wrong_request(_stores):
+    """The plain store says what --keep expects of standard input."""
+    words = [sys.executable, os.path.join(CONFORMANCE, "store.py"), "--keep"]
+    for line in ("no JSON", "[]", '{"id": 1}'):
+        ended = start_to(words, line + "\n", 1)
+        expect(f"store.py --keep < {line}", "--keep: a line of standard input is not a JSON object with an id and a"
+               " scenario, as `compare --keep` passes it\n", ended.printed + ended.said)
+
+
+TRIALS = (at_the_end, two_events, failing_later, kept_failing, kept_and_shared, as_json, progress, interrupted_late,
+          wrong_calls, not_written, failing_program, failing_node, wrong_request)
