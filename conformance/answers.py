@@ -140,6 +140,12 @@ def first_difference(expected, kinds, text):
     return difference
 
 
+def shows_replies(kinds, text):
+    """Whether the output of a store has lines about histories and replies that are compared: a report, or lines `reply`
+    if the lines of a trace that are compared include them."""
+    return any(REPORT_BEGIN.match(line) or kind_of(line) in kinds & {"reply"} for line in text.split("\n"))
+
+
 def failed(ended, seconds, is_kept):
     """The difference of a store that did not end by itself, ended with a status other than 0, or gave an answer that is
     not one. Otherwise None. A negative status means a signal."""

@@ -55,12 +55,13 @@ def with_event(difference, schedule):
 
 
 class Comparison:
-    """A store, the source of the expected output, and the number of schedules that agreed. `say` gets the progress. Up
-    to `jobs` stores run at once."""
+    """A store, the source of the expected output, the number of schedules that agreed, and whether the store printed
+    replies. `say` gets the progress. Up to `jobs` stores run at once."""
 
     def __init__(self, store, source, say, jobs=1):
         self.store, self.source, self.say, self.jobs = store, source, say, jobs
         self.agreed = 0
+        self.has_replies = False
         self.finding = None
         self.slowest = 0.0
         self.end = None
@@ -120,6 +121,7 @@ class Comparison:
             # The store may have printed more events than the schedule has.
             return dataclasses.replace(failure, event=last_of(schedule, failure.event))
         self.slowest = max(self.slowest, ended.seconds)
+        self.has_replies = self.has_replies or answers.shows_replies(self.source.kinds, ended.text)
         found = answers.first_difference(self.source.expect(schedule), self.source.kinds, ended.text)
         if found is not None and found.is_failure():
             found.said = ended.said

@@ -19,6 +19,7 @@ HINT = {
           " (docs/TESTING_A_STORE.md).",
 }
 CARRIAGE_RETURN = "\\r is a carriage return. The store must end a line with a line feed alone."
+NO_REPLIES = "The store printed no report, so no history and no reply was compared."
 SPACE = "Some of the lines differ only in the spaces at their end."
 
 
@@ -155,11 +156,11 @@ def count_of(schedule):
 # ---- the result
 
 def summary(work, choice, is_whole):
-    """Says how many schedules agree, and why others were left out."""
+    """Says how many schedules agree, why others were left out, and what was not compared."""
     agree = f"{work.agreed} schedule{'s' * (work.agreed != 1)} agree{'s' * (work.agreed == 1)}"
     if not is_whole:
         agree = f"interrupted: {work.agreed} of {choice.count} schedules agree"
-    return "\n".join([agree, *choice.remarks()])
+    return "\n".join([agree, *choice.remarks(), *[NO_REPLIES] * (work.agreed > 0 and not work.has_replies)])
 
 
 def difference_as_json(schedule, difference):

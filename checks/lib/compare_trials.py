@@ -9,8 +9,8 @@ import shutil
 import sys
 
 from shared import expect, fail, start_to
-from small_stores import (CONFORMANCE, SUITE, HEAD, FIRST_LINES, HINT, KEEP_HINT, MARKS, SCHEDULES, SMALLEST, HEADING,
-                          count, link)
+from small_stores import (CONFORMANCE, SUITE, HEAD, FIRST_LINES, HINT, KEEP_HINT, MARKS, NO_REPLIES, SCHEDULES,
+                          SMALLEST, HEADING, count, link)
 
 GOOD = HEAD + "show(lines(read()))\n"
 WRONG_SECOND_EVENT = "line.replace('event 1 ', 'event 2 ') for line in lines(read())"
@@ -73,6 +73,21 @@ To repeat it: STORE < FILE
         fail(f"compare failing_later\n{found}")
 
 
+def without_replies(stores):
+    """A store that prints only a trace may reply anything. A program may expect more lines of the trace."""
+    for name, shown, remark in (("trace", "replayed.trace", NO_REPLIES), ("report", "replayed.report()", ""),
+                                ("both", "[*replayed.trace, *replayed.report()]", ""),
+                                ("more", "[*replayed.trace, 'reply 1.0 none']", NO_REPLIES)):
+        stores.write(f"only_{name}", PROGRAM + f"show({shown})\n")
+        expect(f"a store that prints its {name}", "1 schedule agrees\n" + remark,
+               stores.compare(f"only_{name}", ["--seeds", "1"], 0))
+    # `--program` expects all lines of this trace.
+    stores.write("program_with_replies", PROGRAM + "show([*replayed.trace, 'reply 1.0 none'] if sys.argv[1] == 'trace'"
+                 " else replayed.report())\n")
+    expect("a store that prints replies in its trace", "1 schedule agrees\n",
+           stores.compare("only_more", ["--seeds", "1", "--program", "./program_with_replies"], 0))
+
+
 def kept_failing(stores):
     """With --keep, there is no command line that repeats the failure."""
     stores.write("refusing", HEAD + "serve(lambda number, shown: {'id': number, 'error': 'no\\tpeers'})\n")
@@ -128,15 +143,16 @@ def as_json(stores):
 # ---- progress and interruptions
 
 def progress(stores):
-    """Each run of the store takes more than a second, so each step has a line."""
-    stores.write("slow_one", HEAD + "given = read()\ntime.sleep(1.1)\n"
-                 "show(line.replace('event 7 ', 'event 8 ') for line in lines(given))\n")
+    """Each run of the store takes more than a second, so each step has a line. Only the first run is right."""
+    stores.write("slow_one", HEAD + "place = 'event 3 ' if os.path.exists('began') else 'event none '\n"
+                 "open('began', 'w').close()\ntime.sleep(1.1)\n"
+                 "show(line.replace(place, 'event 8 ') for line in lines(read()))\n")
     options = ["--progress", "--jobs", "1", "--shorten", "4"]
     found = stores.compare("slow_one", options, 1).splitlines()
     said = [line for line in found if line.startswith("compare: ")]
-    name, length = next(line for line in found if " differs at event 7: " in line).split(" ")[:2]
+    name, length = next(line for line in found if " differs at event 3: " in line).split(" ")[:2]
     for part in (r"compare: 1 of \d+ schedules agree", f"compare: {name} differs, looking for the event",
-                 rf"compare: shortening {name}: {length[1:]} events, now 8"):
+                 rf"compare: shortening {name}: {length[1:]} events, now 4"):
         if not any(re.fullmatch(part, line) for line in said):
             fail(f"compare --progress has no line {part!r}\n" + "\n".join(said))
     if "compare: " in stores.compare("slow_one", ["--seeds", "1", "--events", "1"], 0):
@@ -232,5 +248,5 @@ def wrong_request(_stores):
                " scenario, as `compare --keep` passes it\n", ended.printed + ended.said)
 
 
-TRIALS = (at_the_end, two_events, failing_later, kept_failing, kept_and_shared, as_json, progress, interrupted_late,
-          wrong_calls, not_written, failing_program, failing_node, wrong_request)
+TRIALS = (at_the_end, two_events, failing_later, without_replies, kept_failing, kept_and_shared, as_json, progress,
+          interrupted_late, wrong_calls, not_written, failing_program, failing_node, wrong_request)

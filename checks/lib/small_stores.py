@@ -47,6 +47,7 @@ KEEP_HINT = ("With --keep, the store gets one schedule in each line, and must an
 PAGE = pathlib.Path(TOP, "docs", "page", "mencius.html")
 MARKS = "(- marks expected lines, + marks found lines)\n"
 RETURN = "\\r is a carriage return. The store must end a line with a line feed alone.\n"
+NO_REPLIES = "The store printed no report, so no history and no reply was compared.\n"
 SPACE = "Some of the lines differ only in the spaces at their end.\n"
 
 
