@@ -48,7 +48,7 @@ def by_module():
             node.stdin.flush()
         answer = node.stdout.readline()
         if not answer:
-            raise OSError("the process of node that calls the module has ended")
+            raise OSError("the process of node that calls the module has ended. The module needs node 18 or later.")
         status, printed, _ = json.loads(answer)
         return status, base64.b64decode(printed)
     return one_at_a_time(call)

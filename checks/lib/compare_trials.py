@@ -28,7 +28,8 @@ USAGE = "usage: compare [OPTION ..] -- STORE [WORD ..]\ncompare: error: "
 
 def at_the_end(stores):
     """The lines of the last event are shown, too, with those that come after them."""
-    stores.write("program", PROGRAM + "show([*replayed.trace, *ends] if sys.argv[1] == 'trace' else replayed.report())\n")
+    stores.write("program", PROGRAM + "show([*replayed.trace, *ends] if sys.argv[1] == 'trace'"
+                 " else replayed.report())\n")
     body = PROGRAM[len(HEAD):] + ("show([*replayed.trace, *ends, *['unheard 0 Suggest to 0'"
                                   " for line in replayed.trace[1:2] if line.startswith('sent ')]])\n")
     last = count(SMALLEST) - 1
@@ -69,7 +70,8 @@ shortened to 1 event (the least) in FILE. The expected output includes:
   sent 0 Suggest from 0 to all instance 0 ballot 0 value 1.0
 To repeat it: STORE < FILE
 """ + link(1, "submit 0 1.0 cas a x x"), found.partition("\n")[2])
-    if HINT in found or not re.match(r"cas_\w+ \(\d+ events\) fails at event \d+: the store ended with status 1\n", found):
+    heading = r"cas_\w+ \(\d+ events\) fails at event \d+: the store ended with status 1\n"
+    if HINT in found or not re.match(heading, found):
         fail(f"compare failing_later\n{found}")
 
 
@@ -130,8 +132,8 @@ def as_json(stores):
         "expected": ["event 1 deliver 0 0", "sent 1 Accepted from 0 to 0 instance 0 ballot 0"],
         "found": ["event 2 deliver 0 0", "sent 1 Accepted from 0 to 0 instance 0 ballot 0"]}, sort_keys=True),
         json.dumps({name: value for name, value in shortest.items() if name != "schedule"}, sort_keys=True))
-    wanted = {"agreed": 0, "interrupted": False, "is_least": False, "is_minimal": True, "is_steady": True, "file": "FILE",
-              "link": link(1, *shortest["events"]).removeprefix("To look at it: ").rstrip()}
+    wanted = {"agreed": 0, "interrupted": False, "is_least": False, "is_minimal": True, "is_steady": True,
+              "file": "FILE", "link": link(1, *shortest["events"]).removeprefix("To look at it: ").rstrip()}
     expect("compare --json, the rest", json.dumps(wanted), json.dumps({name: found[name] for name in wanted}))
     expect("compare --json, the schedule", SMALLEST, found["difference"]["schedule"])
     stores.write("failing_in_json", HEAD + "sys.exit('no peers')\n")
@@ -170,8 +172,8 @@ if len([name for name in os.listdir('.') if name.startswith('late_')]) == 5:
 show({WRONG_SECOND_EVENT})
 """)
     found = stores.compare("interrupting_late", ["--jobs", "1", "--seconds", "60"], 1)
-    if not found.startswith(f"{HEADING} differs at event 1: ") or "\nshortened to 2 events (--shorten gives more time)" \
-            " in FILE:\n" not in found:
+    begin, short = f"{HEADING} differs at event 1: ", "\nshortened to 2 events (--shorten gives more time) in FILE:\n"
+    if not found.startswith(begin) or short not in found:
         fail(f"a comparison that is interrupted late\n{found}")
 
 
@@ -233,9 +235,10 @@ def failing_node(stores):
     stores.write(os.path.join(module, "build"), "def sum_of_parts(path): return 'right'\n")
     stores.write(os.path.join(module, "sum"), "right\n")
     path = os.path.join(stores.folder, "node") + os.pathsep + stores.around["PATH"]
+    wanted = "the process of node that calls the module has ended. The module needs node 18 or later."
     for name, text in (("at once", "#!/bin/sh\nexit 3\n"), ("after a line", "#!/bin/sh\nread line\nexit 3\n")):
         stores.write(os.path.join("node", "node"), text)
-        expect(f"a node that ends {name}", "compare: the process of node that calls the module has ended\n",
+        expect(f"a node that ends {name}", f"compare: {wanted}\n",
                stores.compare("agreeing_again", ["--seeds", "1"], 2, where, PATH=path))
 
 
