@@ -94,24 +94,24 @@ def kept_failing(stores):
     """With --keep, there is no command line that repeats the failure."""
     stores.write("refusing", HEAD + "serve(lambda number, shown: {'id': number, 'error': 'no\\tpeers'})\n")
     expect("compare refusing", f"""\
-{HEADING} fails: the store answered with an error
+{HEADING} fails at event 0: the store answered with an error
 standard output:
 + no\\tpeers
 
 shortened to 0 events (the least) in FILE. The expected output includes:
   servers 1 messages 0 events 0
   server 0 front 0 done 0 history -
-{KEEP_HINT}""", stores.compare("refusing", ["--keep", "--jobs", "1"], 1).replace(" fails at event 0:", " fails:"))
+{KEEP_HINT}""", stores.compare("refusing", ["--keep", "--jobs", "1"], 1))
 
 
 def kept_and_shared(stores):
-    """A store that fails only if two of its processes are alive."""
+    """A store that is wrong while two of its processes have been started, and not before or after."""
     stores.write("shared", HEAD + """
 open('shared_' + str(os.getpid()), 'w').close()
 def answer(number, shown):
-    number_alive = len([name for name in os.listdir('.') if name.startswith('shared_')])
+    started = len([name for name in os.listdir('.') if name.startswith('shared_')])
     time.sleep(0.2)
-    return {'id': number, 'lines': ['event 0 wrong'] if number_alive == 2 else shown}
+    return {'id': number, 'lines': ['event 0 wrong'] if started == 2 else shown}
 serve(answer)
 """)
     found = stores.compare("shared", ["--keep", "--jobs", "2", "--seeds", "40"], 1)
@@ -145,11 +145,11 @@ def as_json(stores):
 # ---- progress and interruptions
 
 def progress(stores):
-    """Each run of the store takes more than a second, so each step has a line. Only the first run is right."""
+    """Each run of the store takes 1.5 seconds, so each step has a line. Only the first run is right."""
     stores.write("slow_one", HEAD + "place = 'event 3 ' if os.path.exists('began') else 'event none '\n"
-                 "open('began', 'w').close()\ntime.sleep(1.1)\n"
+                 "open('began', 'w').close()\ntime.sleep(1.5)\n"
                  "show(line.replace(place, 'event 8 ') for line in lines(read()))\n")
-    options = ["--progress", "--jobs", "1", "--shorten", "4"]
+    options = ["--progress", "--jobs", "1", "--shorten", "6"]
     found = stores.compare("slow_one", options, 1).splitlines()
     said = [line for line in found if line.startswith("compare: ")]
     name, length = next(line for line in found if " differs at event 3: " in line).split(" ")[:2]
