@@ -240,6 +240,8 @@ def failing_node(stores):
         stores.write(os.path.join("node", "node"), text)
         expect(f"a node that ends {name}", f"compare: {wanted}\n",
                stores.compare("agreeing_again", ["--seeds", "1"], 2, where, PATH=path))
+    stores.write(os.path.join(module, "build"), "def sum_of_parts(path): raise KeyboardInterrupt\n")
+    expect("an interruption at the start", "", stores.compare("agreeing_again", ["--seeds", "1"], 130, where, PATH=path))
 
 
 def wrong_request(_stores):
