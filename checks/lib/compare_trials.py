@@ -30,19 +30,18 @@ def at_the_end(stores):
     """The lines of the last event are shown, too, with those that come after them."""
     stores.write("program", PROGRAM + "show([*replayed.trace, *ends] if sys.argv[1] == 'trace'"
                  " else replayed.report())\n")
-    body = PROGRAM[len(HEAD):] + ("show([*replayed.trace, *ends, *['unheard 0 Suggest to 0'"
-                                  " for line in replayed.trace[1:2] if line.startswith('sent ')]])\n")
-    last = count(SMALLEST) - 1
+    scenario, report = SCHEDULES[SMALLEST]
     with open(os.path.join(SUITE, SMALLEST + ".trace"), encoding="utf-8") as file:
-        shown = "".join(f"  {line}\n" for line in file.read().partition(f"event {last - 3} ")[1:][1].splitlines())
-    ends = "".join(f"  {line}\n" for line in SCHEDULES[SMALLEST][1].splitlines() if line.startswith("server "))
-    ends = re.sub("done (.*) history .*", r"executed \1 next \1 waiting -", ends)
-    wanted = (f"{HEADING} differs at event {last}: its trace has other lines at the end\n{MARKS}  event {last - 3} "
-              + shown.lstrip() + ends + "+ unheard 0 Suggest to 0\n\n"
-              f"shortened to 1 event (the least) in FILE:\n{FIRST_LINES}"
-              "  server 0 front 1 executed 0 next 0 waiting -\n+ unheard 0 Suggest to 0\n"
-              + link(1, "submit 0 1.0 get a"))
-    stores.shows("longer_trace", body, wanted, "--program", "./program")
+        trace = re.sub("(?m)^", "  ", file.read().rstrip()) + "\n"
+    ends = "".join(f"  {line}\n" for line in report.splitlines() if line.startswith("server "))
+    ends = re.sub("done (.*) history .*", r"executed \1 next \1 waiting -", ends) + "+ unheard 0 Suggest to 0\n"
+    last = count(SMALLEST) - 1
+    wanted = (f"{HEADING} differs at event {last}: its trace has other lines at the end\n{MARKS}"
+              + trace[trace.index(f"  event {last - 3} "):] + ends
+              + f"\nshortened to {last + 1} events (--shorten gives more time) in FILE:\n" + trace + ends
+              + link(scenario["servers"], *scenario["events"]))
+    body = PROGRAM[len(HEAD):] + "show([*replayed.trace, *ends, 'unheard 0 Suggest to 0'])\n"
+    stores.shows("longer_trace", body, wanted, "--program", "./program", "--shorten", "0")
 
 
 def two_events(stores):
@@ -59,20 +58,16 @@ shortened to 2 events (no event can be left out) in FILE:
 def failing_later(stores):
     """A store that has agreed before knows how to read schedules. So the text has a link in place of the hint."""
     stores.write("failing_later", HEAD + "given = read()\nshow(lines(given))\n"
-                 "if ' cas ' in str(given): sys.exit('no cas')\n")
-    found = stores.compare("failing_later", [], 1)
-    expect("compare failing_later", """\
+                 "names = [event.split()[2] for event in given['events'] if event.startswith('submit ')]\n"
+                 "if len(names) > len(set(names)): sys.exit('a command again')\n")
+    expect("compare failing_later", f"""\
 standard error:
-! no cas
+! a command again
 
-shortened to 1 event (the least) in FILE. The expected output includes:
-  event 0 submit 0 1.0 cas a x x
-  sent 0 Suggest from 0 to all instance 0 ballot 0 value 1.0
+shortened to 2 events (no event can be left out) in FILE. The expected output includes:
+{FIRST_LINES}  event 1 submit 0 1.0 get a
 To repeat it: STORE < FILE
-""" + link(1, "submit 0 1.0 cas a x x"), found.partition("\n")[2])
-    heading = r"cas_\w+ \(\d+ events\) fails at event \d+: the store ended with status 1\n"
-    if HINT in found or not re.match(heading, found):
-        fail(f"compare failing_later\n{found}")
+""" + link(1, "submit 0 1.0 get a", "submit 0 1.0 get a"), stores.compare("failing_later", [], 1).partition("\n")[2])
 
 
 def without_replies(stores):
@@ -145,19 +140,22 @@ def as_json(stores):
 # ---- progress and interruptions
 
 def progress(stores):
-    """Each run of the store takes 1.5 seconds, so each step has a line. Only the first run is right."""
-    stores.write("slow_one", HEAD + "place = 'event 3 ' if os.path.exists('began') else 'event none '\n"
-                 "open('began', 'w').close()\ntime.sleep(1.5)\n"
-                 "show(line.replace(place, 'event 8 ') for line in lines(read()))\n")
-    options = ["--progress", "--jobs", "1", "--shorten", "6"]
-    found = stores.compare("slow_one", options, 1).splitlines()
+    """The first four runs take 1.5 seconds, so each step has a line. All runs after the first one are wrong."""
+    stores.write("slow_at_first", HEAD + """
+open('run_%d' % os.getpid(), 'w').close()
+runs = len([name for name in os.listdir('.') if name.startswith('run_')])
+time.sleep(1.5 * (runs <= 4))
+show(line.replace('event 2 ', 'event 8 ' if runs > 1 else 'event 2 ') for line in lines(read()))
+""")
+    found = stores.compare("slow_at_first", ["--progress", "--jobs", "1"], 1).splitlines()
     said = [line for line in found if line.startswith("compare: ")]
-    name, length = next(line for line in found if " differs at event 3: " in line).split(" ")[:2]
+    name, length = next(line for line in found if " differs at event 2: " in line).split(" ")[:2]
     for part in (r"compare: 1 of \d+ schedules agree", f"compare: {name} differs, looking for the event",
-                 rf"compare: shortening {name}: {length[1:]} events, now 4"):
+                 rf"compare: shortening {name}: {length[1:]} events, now 3"):
         if not any(re.fullmatch(part, line) for line in said):
             fail(f"compare --progress has no line {part!r}\n" + "\n".join(said))
-    if "compare: " in stores.compare("slow_one", ["--seeds", "1", "--events", "1"], 0):
+    stores.write("slow_and_good", HEAD + "time.sleep(1.5)\nshow(lines(read()))\n")
+    if "compare: " in stores.compare("slow_and_good", ["--seeds", "1"], 0):
         fail("compare shows its progress although standard error is not a terminal")
 
 
@@ -241,7 +239,8 @@ def failing_node(stores):
         expect(f"a node that ends {name}", f"compare: {wanted}\n",
                stores.compare("agreeing_again", ["--seeds", "1"], 2, where, PATH=path))
     stores.write(os.path.join(module, "build"), "def sum_of_parts(path): raise KeyboardInterrupt\n")
-    expect("an interruption at the start", "", stores.compare("agreeing_again", ["--seeds", "1"], 130, where, PATH=path))
+    found = stores.compare("agreeing_again", ["--seeds", "1"], 130, where, PATH=path)
+    expect("an interruption at the start", "", found)
 
 
 def wrong_request(_stores):
