@@ -127,7 +127,8 @@ def read_answer(number, line, said):
     try:
         answer = json.loads(line)
     except ValueError:
-        return Ended(0, shown, said, 0, problem="the answer of the store is not JSON")
+        problem = "the answer of the store is not JSON" if line.strip() else "the answer of the store is an empty line"
+        return Ended(0, shown, said, 0, problem=problem)
     if not isinstance(answer, dict) or answer.get("id") != number:
         return Ended(0, shown, said, 0, problem=f"the answer of the store is not an object with the id {number}")
     if "error" in answer:

@@ -97,6 +97,15 @@ shortened to 0 events (the least) in FILE. The expected output includes:
   servers 1 messages 0 events 0
   server 0 front 0 done 0 history -
 {KEEP_HINT}""", stores.compare("refusing", ["--keep", "--jobs", "1"], 1))
+    # An empty line after each answer is the answer to the next schedule.
+    stores.write("with_empty_lines", HEAD + """
+for line in sys.stdin:
+    request = json.loads(line)
+    print(json.dumps({'id': request['id'], 'lines': lines(request['scenario'])}) + '\\n', flush=True)
+""")
+    found = stores.compare("with_empty_lines", ["--keep", "--jobs", "1"], 1)
+    if " fails: the answer of the store is an empty line\nIn a new process of the store, " not in found:
+        fail(f"compare with_empty_lines\n{found}")
 
 
 def kept_and_shared(stores):
