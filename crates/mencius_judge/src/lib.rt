@@ -24,6 +24,6 @@ mod violation;
 
 pub use counts::Counts;
 pub use judge::Judge;
-pub use log_reader::{Breach, Judgement, Verdict, judge_log};
+pub use log_reader::{Breach, Judgement, LogReader, Verdict, judge_log};
 pub use quote::Quote;
 pub use violation::{Promise, Violation};
