@@ -50,7 +50,7 @@ pub fn end<E: Sink>(ending: Ending, errors: &mut E) -> u8
 
 /// Returns the ending of a call from the result of its task. If a text is not clean, the ending is `Refused` only if
 /// `is_reported` is set.
-pub(crate) fn ending_of(is_reported: bool, done: Result<bool, Failure>) -> Ending
+pub fn ending_of(is_reported: bool, done: Result<bool, Failure>) -> Ending
     ensures { result ≡ ending_of is_reported done }
 {
     match done {

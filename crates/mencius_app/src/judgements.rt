@@ -58,7 +58,7 @@ pub(crate) fn read_judgement<R: Source>(
         ≤ (R.state source.old).failures + most_failed_calls }
 {
     let Judgement { verdict, judge } = judge_log(alloc, source)?;
-    let text = text_of(alloc, &verdict, is_brief, is_json)?;
+    let text = text_of_verdict(alloc, &verdict, is_brief, is_json)?;
     Ok(Output {
         text,
         is_clean: is_kept(&verdict),
@@ -66,8 +66,9 @@ pub(crate) fn read_judgement<R: Source>(
     })
 }
 
-// Returns the text of a verdict. `is_brief` leaves out the explanation, and `is_json` gives a JSON object.
-fn text_of(
+/// Returns the text of a verdict, as [`judge`] writes it. `is_brief` leaves out the explanation, and `is_json` gives a
+/// JSON object.
+pub fn text_of_verdict(
     alloc: Global,
     verdict: &Verdict,
     is_brief: bool,
@@ -108,7 +109,8 @@ fn push_breach(text: &mut String, breach: &Breach, is_brief: bool) -> Result<(),
     push_explanation(text, &breach.violation, breach.quotes.as_slice())
 }
 
-fn is_kept(verdict: &Verdict) -> bool
+/// Returns whether the verdict is that all promises are kept and something was judged.
+pub fn is_kept(verdict: &Verdict) -> bool
     ensures { result ≡ is_kept verdict.now }
 {
     match verdict {
