@@ -127,8 +127,9 @@ class Chromium(Browser):
         urls = [row["request"]["url"] for row in asked if row["documentURL"].startswith("file:")]
         return [url for url in urls if not url.startswith(("file:", "data:", "blob:"))]
 
-    def own_time(self, script):
-        """The processor time in milliseconds that the thread of the page needs for a script, styles and layout."""
+    def own_time(self, script, until=None):
+        """The processor time in milliseconds that the thread of the page needs for a script, styles and layout. With
+        another script `until`, the time ends when that script returns a true value."""
         parts = ("ScriptDuration", "LayoutDuration", "RecalcStyleDuration")
 
         def used():
@@ -138,6 +139,8 @@ class Chromium(Browser):
         self.driver.execute_cdp_cmd("Performance.enable", {"timeDomain": "threadTicks"})
         before = used()
         self.run(script + "; document.body.offsetHeight")
+        if until:
+            self.wait(until, f"the end of {script}")
         return 1000 * (used() - before)
 
     def shot(self, path):

@@ -27,8 +27,9 @@ function showVerdict(id, text, isBad) {
 
 // ---- the schedule
 
-// A draft is a text of the editor that is not the schedule of the page. `log` is the log that the user wrote, or null.
-const draft = { isOpen: false, log: null };
+// A draft is a text of the editor that is not the schedule of the page. `log` is the log that the user wrote or opened,
+// or null. `judged` is the log that the page judges.
+const draft = { isOpen: false, log: null, judged: '' };
 
 // Shows a text in the editor that the program may refuse.
 function openDraft(text) {
@@ -104,9 +105,42 @@ function logOf({ events }) {
   return seen.map(line => line + '\n').join('');
 }
 
-// Judges the log of the text area. A long log is judged in a worker, so that the page goes on.
+// Puts a log into its field, unless the browser would need seconds to lay it out.
+function showLog(text) {
+  const isLong = text.length > LONGEST_IN_FIELD;
+  $('log').value = isLong ? '' : text;
+  draft.judged = isLong ? text : $('log').value;
+  $('log').placeholder = isLong ? 'The log is too long for this field, but it is judged, and shown as a timeline.' : '';
+}
+
+// Keeps a log that the user wrote or opened.
+function keepLog(text) {
+  if (draft.log === null) $('logs').add(new Option('your own log', 'own'));
+  $('logs').value = 'own';
+  draft.log = draft.judged = text;
+}
+
+// Shows and judges the log that is chosen in the list.
+function chooseLog() {
+  const { value } = $('logs');
+  showLog(value === 'own' ? draft.log : DATA.logs[value] ?? logOf(page.now.trace));
+  judgeLog(core);
+}
+
+function wireLog() {
+  for (const name of Object.keys(DATA.logs)) $('logs').add(new Option(name.replaceAll('_', ' '), name));
+  $('logs').add(new Option('the log of the schedule', ''));
+  showLog(DATA.logs[$('logs').value = 'same_order']);
+  $('logs').onchange = chooseLog;
+  $('log').oninput = () => {
+    keepLog($('log').value);
+    later('judge', 150, () => judgeLog(core));
+  };
+}
+
+// Judges the log. A long one is judged in a worker, so that the page goes on.
 function judgeLog(core) {
-  const text = $('log').value;
+  const text = draft.judged;
   judging.wanted = null;
   if (text.length <= JUDGED_AT_ONCE) {
     showJudgement(text, core.call(['judge'], text));
@@ -124,7 +158,8 @@ function showJudgement(text, answer) {
   const [verdict, ...quoted] = answer.printed.trim().split('\n'), words = verdict.split(' ');
   const isBroken = words[0] === 'violation', sentence = isBroken ? quoted.pop() : '';
   const said = verdict || wordsOf(answer.said);
-  mark($('log'), verdict && !isBroken ? null : placeOfMistake(text, isBroken ? `line ${words[1]}` : said));
+  const isMarked = (isBroken || !verdict) && $('log').value === text;
+  mark($('log'), isMarked ? placeOfMistake(text, isBroken ? `line ${words[1]}` : said) : null);
   showVerdict('judgement', said, answer.status !== 0);
   $('quoted').textContent = quoted.join('\n');
   $('in-words').textContent = isBroken ? sentence : verdict ? keptInWords(words) : badLineInWords(said);

@@ -82,9 +82,9 @@ function openScenario(name, text) {
 }
 
 function openLog(name, text) {
+  showLog(text);
+  keepLog(draft.judged);
   setTab('judge');
-  $('log').value = text;
-  $('log').dispatchEvent(new Event('input'));
   say(`This is the log ${name}.`);
 }
 

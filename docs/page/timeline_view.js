@@ -28,7 +28,7 @@ function fillTimeline(text, { printed, said }) {
   fillQuoted(printed ? quoted : []);
   fillLaneHeads();
   showCard();
-  drawOverview();
+  later('overview', 0, drawOverview);
   // The place stays while the user edits the log, unless the verdict quotes other lines.
   const place = numbers.join(' ');
   if (place !== board.place && numbers.length > 0) goToLine(numbers.at(-1));
@@ -81,10 +81,10 @@ function fillQuoted(quoted) {
 
 // ---- the rows in sight
 
-// The first and last row in sight, and the spare ones around them.
+// The first and last row in sight, and the spare ones around them. The place may still be that of a longer log.
 function windowOfRows() {
   const { scrollTop, clientHeight } = $('log-stage'), last = board.timeline.rows.length - 1;
-  const first = Math.floor(scrollTop / ROW);
+  const first = Math.min(Math.floor(scrollTop / ROW), Math.max(0, last));
   return [Math.max(0, first - SPARE), Math.min(last, first + Math.ceil(clientHeight / ROW) + SPARE)];
 }
 

@@ -165,20 +165,7 @@ function wireTabs() {
     const schedule = drawByWorker(core, page.schedule);
     if (schedule) become(schedule, schedule.events.length);
   };
-  for (const name of Object.keys(DATA.logs)) $('logs').add(new Option(name.replaceAll('_', ' '), name));
-  $('logs').add(new Option('the log of the schedule', ''));
-  $('log').value = DATA.logs[$('logs').value = 'same_order'];
-  $('logs').onchange = () => {
-    const { value } = $('logs');
-    $('log').value = value === 'own' ? draft.log : DATA.logs[value] ?? logOf(page.now.trace);
-    judgeLog(core);
-  };
-  $('log').oninput = () => {
-    if (draft.log === null) $('logs').add(new Option('your own log', 'own'));
-    $('logs').value = 'own';
-    draft.log = $('log').value;
-    later('judge', 150, () => judgeLog(core));
-  };
+  wireLog();
   for (const area of [$('source'), $('log')]) {
     area.onscroll = () => { area.previousElementSibling.scrollTop = area.scrollTop; };
   }
