@@ -22,6 +22,10 @@ function diceOf(seed) {
   };
 }
 
+// The key of a message on its way to a server. The number of a server is less than 8. A key is not a text, because a
+// long schedule has many of them.
+const keyOfPair = (number, server) => 8 * number + server;
+
 class Drawing {
   // `isAccepted` tells whether the program accepts an event after a schedule.
   constructor(dice, isAccepted) {
@@ -48,7 +52,7 @@ class Drawing {
 
   delay({ number, to }) {
     for (const server of to === null ? this.all : [to]) {
-      if (this.chance(RATES.delay)) this.late.set(`${number} ${server}`, this.time + this.dice(LATE));
+      if (this.chance(RATES.delay)) this.late.set(keyOfPair(number, server), this.time + this.dice(LATE));
     }
   }
 
@@ -166,9 +170,8 @@ class Drawing {
 
   // Whether the message is neither late nor between servers of which one is cut off.
   reaches({ number, to }) {
-    const { from } = this.trace.messages[number];
-    return (this.late.get(`${number} ${to}`) ?? 0) <= this.time
-      && [from, to].every(server => (this.cuts.get(server) ?? 0) <= this.time);
+    const isOver = end => end === undefined || end <= this.time, { from } = this.trace.messages[number];
+    return isOver(this.late.get(keyOfPair(number, to))) && [from, to].every(server => isOver(this.cuts.get(server)));
   }
 
   // Whether the receiver of a message has not learned its instance yet, or may need the message nevertheless.

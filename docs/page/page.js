@@ -143,8 +143,8 @@ function drawingFor(prefix) {
 }
 
 function isAccepted(schedule, event) {
-  const report = readReport(core.call(['replay'], asScenario(withEvent(schedule, event))).printed);
-  return report.refused.at(-1)?.[0] !== schedule.events.length;
+  const { printed } = core.call(['replay'], scenarioAfter(schedule, event));
+  return refusalIn(printed, schedule.events.length) === null;
 }
 
 // Draws random events and inserts them together.
@@ -176,14 +176,16 @@ function refusableEvents(servers) {
 
 // The refusal of the event after the events before the cursor, or null if it would be accepted.
 function refusalOf(event) {
-  const { now, schedule, cursor } = page;
+  const { now, cursor } = page;
   if (!(event in now.refusals)) {
-    const answer = core.call(['replay'], asScenario(withEvent(prefixOf(schedule, cursor), event)));
-    const last = readReport(answer.printed).refused.at(-1);
-    now.refusals[event] = last && last[0] === cursor ? last[1] : null;
+    const { printed } = core.call(['replay'], scenarioAfter(now.prefix, event));
+    now.refusals[event] = refusalIn(printed, cursor);
   }
   return now.refusals[event];
 }
+
+// In events. After more events, the page first shows the step, and then asks which buttons are grey.
+const ASKED_AT_ONCE = 200;
 
 // Finds out which buttons are grey. It works for 12 ms at a time, so that the page stays responsive.
 function greyButtons() {
@@ -205,10 +207,10 @@ function show() {
   if (!made) return;
   const { text, trace } = made;
   const report = core.call(['replay'], asScenario(prefix)).printed;
-  page.now = { schedule, cursor, text, trace, reportText: report, report: readReport(report), refusals: {} };
+  page.now = { schedule, prefix, cursor, text, trace, reportText: report, report: readReport(report), refusals: {} };
   fillHeads(schedule.servers);
   fillDock(page.now);
-  greyButtons();
+  if (cursor > ASKED_AT_ONCE) later('grey', 0, greyButtons); else greyButtons();
   drawPicture(core, page);
   markCursor(cursor);
   light(null);

@@ -6,6 +6,8 @@
 // The number of events that are drawn at once, and the least number of them before and after the cursor.
 const DRAWN = 80;
 const AROUND = 20;
+// If their labels are more than this, only half of the events are drawn. The browser lays out some ten labels in 1 ms.
+const MOST_LABELS = 400;
 // With a filter, the program draws at most this many events, and the page takes out the hidden ones.
 const MOST_FOLDED = 1_500;
 // Positions in a picture of `mencius draw`: its left and upper edge, the first lane, and the distance of the lanes.
@@ -46,11 +48,19 @@ function isInPart({ from, to, size }, list, cursor) {
   return from <= Math.max(0, at - around) && to >= Math.min(list.length, at + around) - 1;
 }
 
+// The number of events to draw around a place in a list. The trace has a line for each label, except for those of the
+// events themselves.
+function sizeOfPart({ events }, list, at) {
+  const [first, last] = partFor(at, list.length, DRAWN), shown = list.slice(first, last + 1);
+  const labels = shown.reduce((sum, event) => sum + events[event].lines.length, 0);
+  return labels > MOST_LABELS ? DRAWN / 2 : DRAWN;
+}
+
 // The program's picture of the part around a cursor. `list` contains the events that are shown. The part has fewer
 // events if the picture would be too large.
-function drawnAround(core, schedule, list, cursor) {
+function drawnAround(core, { schedule, whole }, list, cursor) {
   const scenario = asScenario(schedule), at = countBelow(list, cursor);
-  let answer, part, ends, size = DRAWN;
+  let answer, part, ends, size = sizeOfPart(whole.trace, list, at);
   for (; size > 0; size = Math.floor(size / 4)) {
     part = partFor(at, list.length, size);
     ends = part.map(index => list[index] ?? 0);
@@ -62,10 +72,11 @@ function drawnAround(core, schedule, list, cursor) {
 }
 
 // Draws the part around the cursor, unless it is already drawn. If the program refuses to draw it, shows the reason.
-function drawPicture(core, { schedule, whole, cursor }) {
+function drawPicture(core, page) {
+  const { schedule, whole, cursor } = page;
   const { drawn } = picture, list = shownEvents(whole, cursor);
   if (drawn && drawn.schedule === schedule && sameList(drawn.list, list) && isInPart(drawn, list, cursor)) return;
-  const made = drawnAround(core, schedule, list, cursor), { answer } = made;
+  const made = drawnAround(core, page, list, cursor), { answer } = made;
   picture.drawn = made.drawn;
   if (answer.status !== 0) {
     Object.assign(picture, { svg: null, rows: [] });

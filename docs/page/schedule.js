@@ -52,6 +52,12 @@ function readScenario(text) {
 const prefixOf = (schedule, length) => ({ ...schedule, events: schedule.events.slice(0, length) });
 const withEvent = (schedule, event) => ({ ...schedule, events: [...schedule.events, event] });
 
+// The text of `withEvent(schedule, event)`. It begins with the text of the schedule, so a long one is not written again.
+function scenarioAfter(schedule, event) {
+  if (schedule.events.length === 0 || versionOf([event]) > 1) return asScenario(withEvent(schedule, event));
+  return `${asScenario(schedule).slice(0, -']}'.length)},${JSON.stringify(event)}]}`;
+}
+
 // ---- the place of a mistake in a text, from the words of the program
 
 // The places of the items of a list, each as [start, end]. The bracket of the list is at `open`.

@@ -166,6 +166,14 @@ function readReport(text) {
   return report;
 }
 
+// The refusal of an event in a report, or null if the event was accepted. No later event may be refused. A report
+// begins with a line for each refusal, in order.
+function refusalIn(report, event) {
+  const end = report.startsWith('servers ') ? 0 : report.indexOf('\nservers ');
+  const [, number, name] = report.slice(report.lastIndexOf('\n', end - 1) + 1, end).split(' ');
+  return number === String(event) ? name : null;
+}
+
 // The reason for each refusal, in words.
 const REFUSALS = {
   BadServer: 'the cluster has no such server',
