@@ -107,6 +107,9 @@ def point_at_a_message(browser):
     same(browser, "the parts that are marked from below a lane", ["4 1", "m4", "over 4"], browser.run(LIT))
     browser.run("document.getElementById('dock').dispatchEvent(new MouseEvent('mouseleave'))")
     same(browser, "the parts that are marked after that", [], browser.run(LIT))
+    browser.run("document.querySelector('#dock [data-server=\"1\"] [data-m=\"4\"] .message').focus()")
+    same(browser, "the parts that are marked by the focus", ["4 1", "m4", "over 4"], browser.run(LIT))
+    browser.run("document.activeElement.blur()")
 
 
 def read_why_nothing_came(browser):

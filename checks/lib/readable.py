@@ -77,6 +77,9 @@ def look_at_a_laptop(browser):
 def look_at_a_narrow_window(browser, what):
     """The steps, the row of the last event and the name of its server must stay in sight at the end of an example."""
     browser.open(URL)
+    names, hint = browser.run("""const box = id => document.getElementById(id).getBoundingClientRect();
+      return [box('heads').top, box('hint').bottom].map(Math.round)""")
+    same(browser, f"whether the names, at {names} px, are below the hint, which ends at {hint} px", True, names >= hint)
     browser.choose("#example", "duelling_revokers")
     for place in (19, 2, 10, 18):
         act(browser, f"before {place}")

@@ -167,7 +167,8 @@ function wireCards() {
   $('picture').onmouseleave = unpointed;
   $('dock').onmouseover = pointed;
   $('dock').onmouseleave = unpointed;
-  $('dock').onfocusin = ({ target }) => light(pointedAt(target)?.message ?? null);
+  // No browser has a property `onfocusin`.
+  $('dock').addEventListener('focusin', ({ target }) => light(pointedAt(target)?.message ?? null));
   $('about').onclick = ({ target }) => {
     const button = target.closest('[data-do]');
     if (button) { closeCard(); press(button); focusPicture(); }

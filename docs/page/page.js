@@ -277,10 +277,18 @@ function setTab(tab) {
 function showHint(text) {
   $('hint').firstElementChild.innerHTML = text;
   $('hint').hidden = false;
+  makeRoomForHint();
 }
 
 function hideHint() {
+  if ($('hint').hidden) return;
   $('hint').hidden = true;
+  makeRoomForHint();
+}
+
+// The names of the servers stay in sight below the hint.
+function makeRoomForHint() {
+  $('stage').style.setProperty('--hint', `${$('hint').offsetHeight}px`);
 }
 
 // ---- start

@@ -67,6 +67,12 @@ function showSide() {
   $('side').setAttribute('aria-pressed', isHidden);
 }
 
+// The button that closes the help has the focus. It is at the end, but the help is read from its start.
+function showHelp() {
+  $('keys').showModal();
+  $('keys').scrollTop = 0;
+}
+
 // Adds an input for a field that all servers share. If the program accepts a new number, the events stay.
 function wireCommon(name) {
   const input = el('input', { id: name, type: 'number', min: 0 });
@@ -106,7 +112,7 @@ function wireBar() {
     first: () => go(0), back: () => step(-1), next: () => step(1), last: () => go(Infinity),
     link: shareLink, json: saveSchedule, svg: savePicture, discard: discardDraft,
     copy: () => copy($('shared').value), 'close-share': () => $('share').close(),
-    theme: changeTheme, side: showSide, help: () => $('keys').showModal(), 'close-keys': () => $('keys').close(),
+    theme: changeTheme, side: showSide, help: showHelp, 'close-keys': () => $('keys').close(),
   };
   for (const [id, action] of Object.entries(actions)) $(id).onclick = action;
   $('slider').oninput = () => go(+$('slider').value);
@@ -124,6 +130,7 @@ function wireStage() {
 }
 
 function resized() {
+  makeRoomForHint();
   measure();
   if (!picture.svg) return;
   fitPicture(page.schedule.servers);
@@ -177,7 +184,7 @@ const PLAIN = {
   ArrowLeft: () => step(-1), ArrowRight: () => step(1), ArrowUp: () => step(-1), ArrowDown: () => step(1),
   PageUp: () => step(-10), PageDown: () => step(10), Home: () => go(0), End: () => go(Infinity),
   Delete: takeOut, Backspace: takeOut, r: () => addAtRandom(1), R: () => addAtRandom(20), p: showSide,
-  ' ': togglePlay, g: () => $('goto').select(), '?': () => $('keys').showModal(),
+  ' ': togglePlay, g: () => $('goto').select(), '?': showHelp,
   d: () => pressFocused('.message'), l: () => pressFocused('.lose'), e: explainFocused,
 };
 
