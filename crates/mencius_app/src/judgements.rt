@@ -9,7 +9,7 @@ ghost use Rattle.mencius_app.specs.Tasks.{IsOutput, Writes, streams};
 
 use crate::output::{Output, deliver};
 use mencius_io::{Failure, Sink, Source};
-use mencius_judge::{Breach, Judgement, Verdict, judge_log};
+use mencius_judge::{Breach, Verdict, judge_log};
 use mencius_verdict::{push_broken, push_explanation, push_json, push_kept, push_unjudged};
 use std::alloc::{AllocError, Global};
 
@@ -57,12 +57,13 @@ pub(crate) fn read_judgement<R: Source>(
     ensures few { (R.state source.new).failures
         ≤ (R.state source.old).failures + most_failed_calls }
 {
-    let Judgement { verdict, judge } = judge_log(alloc, source)?;
-    let text = text_of_verdict(alloc, &verdict, is_brief, is_json)?;
+    let judgement = judge_log(alloc, source)?;
+    let text = text_of_verdict(alloc, &judgement.verdict, is_brief, is_json)?;
+    let is_clean = is_kept(&judgement.verdict);
     Ok(Output {
         text,
-        is_clean: is_kept(&verdict),
-        judge: Some(judge),
+        is_clean,
+        judge: Some(judgement.judge),
     })
 }
 

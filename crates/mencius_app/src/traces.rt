@@ -1,6 +1,6 @@
 //! The trace of a scenario, and the text that it prints.
 
-ghost use Rattle.std.specs.Prelude.{◌≡◌, ◌++◌, [], true, string_bytes, IfErr, IfOk, OnOk};
+ghost use Rattle.std.specs.Prelude.{◌≡◌, ◌++◌, ◌∷◌, [], true, string_bytes, IfErr, IfOk, OnOk};
 ghost use Rattle.std.specs.Io.KnownBytes.{IsAtEnd};
 ghost use Rattle.mencius_app.specs.Failures.{ExplainsAs, Fails, FailsReading};
 ghost use Rattle.mencius_app.specs.Input.{HasFault, unless_long};
@@ -95,26 +95,24 @@ fn traced_events(
     ensures text { IfOk result (λ s. string_bytes s ≡ view_text view.now [] members events) }
 {
     let mut cluster = Cluster::with_salt(alloc, members, salt_after(0, events.commands()))?;
-    let mut text = String::new(alloc);
-    push_trace(alloc, &mut text, view, &mut cluster, events)?;
-    Ok(text)
+    text_of_trace(alloc, view, &mut cluster, events)
 }
 
-// Adds the trace of a new cluster, which has the salt of these events, and steps the cluster through them.
-fn push_trace(
+// Steps a new cluster, which has the salt of these events, through them, and makes the text of its trace.
+fn text_of_trace(
     alloc: Global,
-    text: &mut String,
     view: &View,
     cluster: &mut Cluster,
     events: Events,
-) -> Result<(), NoMemory>
+) -> Result<String, NoMemory>
     requires journal { cluster.old.journal ≡ [] }
     requires salt { cluster.old.hasher ≡ hasher_with (salt_of_events events) }
-    ensures { OnOk result (string_bytes text.new
-        ≡ string_bytes text.old ++ view_text view.now [] cluster.old.members events) }
+    ensures { IfOk result (λ s. string_bytes s ≡ view_text view.now [] cluster.old.members events) }
 {
-    push_opening(text, view, cluster.members())?;
-    push_events(alloc, text, view, cluster, events)
+    let mut text = String::new(alloc);
+    push_opening(&mut text, view, cluster.members())?;
+    push_events(alloc, &mut text, view, cluster, events)?;
+    Ok(text)
 }
 
 // Makes the text of the trace of a view that chooses a command. The events are stepped twice, because the first lines
@@ -147,8 +145,23 @@ fn events_and_suggestions(
     ensures suggested { IfOk result (λ x. x.1.items ≡ suggested_instances (trace_from members [] events) id) }
 {
     let mut cluster = Cluster::with_salt(alloc, members, salt)?;
-    let kept = step_and_keep(alloc, &mut cluster, events)?;
-    let suggested = suggested_instances(alloc, &cluster, id)?;
+    step_and_suggest(alloc, &mut cluster, events, id)
+}
+
+// Steps a cluster through events. Returns the events, and the instances for which a command was suggested.
+fn step_and_suggest(
+    alloc: Global,
+    cluster: &mut Cluster,
+    events: Events,
+    id: CommandId,
+) -> Result<(Vec<Event>, Vec<u32>), NoMemory>
+    requires salt { cluster.old.hasher ≡ hasher_with (salt_of_events events) }
+    ensures kept { IfOk result (λ x. x.0.items ≡ events) }
+    ensures suggested { IfOk result (λ x. x.1.items
+        ≡ suggested_instances (trace_from cluster.old.members (trace_of cluster.old) events) id) }
+{
+    let kept = step_and_keep(alloc, cluster, events)?;
+    let suggested = suggested_instances(alloc, cluster, id)?;
     Ok((kept, suggested))
 }
 
@@ -165,27 +178,26 @@ fn kept_trace(
     ensures text { IfOk result (λ s. string_bytes s ≡ view_text view.now suggested.now members events.items) }
 {
     let mut cluster = Cluster::with_salt(alloc, members, salt)?;
-    let mut text = String::new(alloc);
-    push_kept_trace(alloc, &mut text, view, suggested, &mut cluster, events)?;
-    Ok(text)
+    text_of_kept_trace(alloc, view, suggested, &mut cluster, events)
 }
 
-// Adds the trace of a new cluster, which has the salt of these events, for a view that chooses a command.
-fn push_kept_trace(
+// Does the same for a view that chooses a command.
+fn text_of_kept_trace(
     alloc: Global,
-    text: &mut String,
     view: &View,
     suggested: &[u32],
     cluster: &mut Cluster,
     events: Vec<Event>,
-) -> Result<(), NoMemory>
+) -> Result<String, NoMemory>
     requires journal { cluster.old.journal ≡ [] }
     requires salt { cluster.old.hasher ≡ hasher_with (salt_of_events events.items) }
-    ensures { OnOk result (string_bytes text.new
-        ≡ string_bytes text.old ++ view_text view.now suggested.now cluster.old.members events.items) }
+    ensures { IfOk result (λ s. string_bytes s
+        ≡ view_text view.now suggested.now cluster.old.members events.items) }
 {
-    push_opening(text, view, cluster.members())?;
-    push_kept_events(alloc, text, view, suggested, cluster, events)
+    let mut text = String::new(alloc);
+    push_opening(&mut text, view, cluster.members())?;
+    push_kept_events(alloc, &mut text, view, suggested, cluster, events)?;
+    Ok(text)
 }
 
 // Steps a cluster, which has the salt of the events, through the events, and returns the events.
@@ -201,10 +213,18 @@ fn step_and_keep(
 {
     let mut kept = Vec::new(alloc);
     for event in events {
-        kept.push(event.clone()?)?;
+        keep(&mut kept, &event)?;
         step_one(cluster, event)?;
     }
     Ok(kept)
+}
+
+// Adds a copy of an event.
+fn keep(kept: &mut Vec<Event>, event: &Event) -> Result<(), NoMemory>
+    ensures { OnOk result (kept.new.items ≡ kept.old.items ++ event.now ∷ []) }
+{
+    kept.push(event.clone()?)?;
+    Ok(())
 }
 
 // Steps a cluster through the events, and adds the chosen lines of each event. After the last event, adds the closing

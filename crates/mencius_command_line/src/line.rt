@@ -2,7 +2,7 @@
 
 ghost use Rattle.std.specs.Prelude.{◌≡◌, ◌≤◌, ◌∷◌, false, IfErr, IfOk, Some, codes, length, map, option_copied, option_map, string_bytes};
 ghost use Rattle.clap.specs.declared.builder.command.Command.TheViews.{out-Command as fields_of};
-ghost use Rattle.clap.specs.Words.{FailsBy, HasKind, app_of, first_of, found_of, kind_of, rows_of, rule_of, subcommand_rows_of};
+ghost use Rattle.clap.specs.Words.{App, FailsBy, HasKind, app_of, first_of, found_of, kind_of, rows_of, rule_of, subcommand_rows_of, with_subcommand};
 ghost use Rattle.mencius_command_line.specs.CommandLine.{task_in, task_by_name, judge_by, task_state, bad_key_faults, brief_option, faults, check_task, is_key, journal_option, judge_task, lookup_option, observations_option, program, replay_task, run_task, strict_option, value_faults, with_joined_key, with_replays, without_tasks, words_read};
 ghost use Rattle.mencius_command_line.specs.Flags.{has_flag, json_option};
 
@@ -178,24 +178,35 @@ fn without_tasks<'a>(alloc: Global) -> Command<'a>
         .subcommand_required(true)
 }
 
+// Adds a task to the program, if the task could be built.
+fn with_task<'a>(
+    program: Command<'a>,
+    task: Result<Command<'a>, AllocError>,
+) -> Result<Command<'a>, AllocError>
+    ensures { (a : App) → IfOk task.entry (λ added. app_of added ≡ a)
+        → IfOk task.entry (λ added. (fields_of added).has_globals ≡ false)
+        → IfOk result (λ command. app_of command ≡ with_subcommand (app_of program.entry) a.top) }
+{
+    program.subcommand(task?)
+}
+
 // Builds the program with the tasks `replay`, `trace`, `draw` and `check`.
 fn with_replays<'a>(alloc: Global) -> Result<Command<'a>, AllocError>
     ensures { IfOk result (λ command. app_of command ≡ with_replays) }
 {
-    without_tasks(alloc)
-        .subcommand(replay_command(alloc)?)?
-        .subcommand(trace_command(alloc)?)?
-        .subcommand(draw_command(alloc)?)?
-        .subcommand(check_command(alloc))
+    let program = with_task(without_tasks(alloc), replay_command(alloc))?;
+    let program = with_task(program, trace_command(alloc))?;
+    let program = with_task(program, draw_command(alloc))?;
+    program.subcommand(check_command(alloc))
 }
 
 // Builds the program with all its tasks.
 fn command_line<'a>(alloc: Global) -> Result<Command<'a>, AllocError>
     ensures { IfOk result (λ command. app_of command ≡ program) }
 {
-    with_replays(alloc)?
-        .subcommand(judge_command(alloc)?)?
-        .subcommand(run_command(alloc)?)
+    let program = with_replays(alloc)?;
+    let program = with_task(program, judge_command(alloc))?;
+    with_task(program, run_command(alloc))
 }
 
 /// Returns whether a flag was given.

@@ -160,8 +160,19 @@ fn push_name(alloc: Global, text: &mut String, server: u32) -> Result<(), AllocE
     ensures { OnOk result (Keeps (string_bytes text.old) (string_bytes text.new)) }
 {
     let rest = format!(in alloc; " class='name f{server}' y='33'")?;
+    push_server_label(alloc, text, rest.as_str(), server)
+}
+
+fn push_server_label(
+    alloc: Global,
+    text: &mut String,
+    rest: &str,
+    server: u32,
+) -> Result<(), AllocError>
+    ensures { OnOk result (Keeps (string_bytes text.old) (string_bytes text.new)) }
+{
     let name = format!(in alloc; "server {server}")?;
-    push_label(text, rest.as_str(), name.as_str())
+    push_label(text, rest, name.as_str())
 }
 
 // Adds the first instances that a server owns.

@@ -1,3 +1,5 @@
 pub mod CallEnds
-pub mod ToldAnswers
+pub mod JudgeSteps
+pub mod LoosePointers
 pub mod StateEnds
+pub mod ToldAnswers

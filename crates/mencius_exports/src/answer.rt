@@ -16,7 +16,7 @@ pub struct Answer {
     pub printed: u64,
     /// The number of bytes for standard error.
     pub said: u64,
-    /// 1 if the input was read, and 0 otherwise.
+    /// 1 if the input was read, or if a judge wants more bytes, and 0 otherwise.
     pub asked: u64,
 }
 
@@ -38,8 +38,8 @@ pub(crate) fn tell(
     }
 }
 
-// Reports a call, and puts each text of the call into its buffer if the whole text fits.
-fn tell_texts(called: &Called, printed: &mut [u8], said: &mut [u8], answer: &mut Answer)
+/// Reports a call, and puts each text of the call into its buffer if the whole text fits.
+pub(crate) fn tell_texts(called: &Called, printed: &mut [u8], said: &mut [u8], answer: &mut Answer)
     ensures { Tells answer.new called.now.status called.now.printed.items called.now.said.items
         called.now.is_asked printed.old printed.new said.old said.new }
 {

@@ -37,6 +37,21 @@ impl Called {
             is_asked: false,
         }
     }
+
+    /// Makes the result of a call that has done nothing yet, and wants its input.
+    pub fn wanting(alloc: Global) -> Called
+        ensures status { result.status ≡ 0 }
+        ensures printed { result.printed.items ≡ [] }
+        ensures said { result.said.items ≡ [] }
+        ensures wants { result.is_asked ≡ true }
+    {
+        Called {
+            status: 0,
+            printed: Vec::new(alloc),
+            said: Vec::new(alloc),
+            is_asked: true,
+        }
+    }
 }
 
 /// Calls the program with these arguments and this input. Each argument ends with a zero byte.
@@ -74,8 +89,13 @@ fn ending_of_state(done: Result<(), Failure>) -> Ending
     }
 }
 
-// Returns the result of a call with this ending, unless there was no memory for one of its texts.
-fn end_call(ending: Ending, is_asked: bool, sink: Text, errors: Text) -> Result<Called, NoMemory>
+/// Returns the result of a call with this ending, unless there was no memory for one of its texts.
+pub(crate) fn end_call(
+    ending: Ending,
+    is_asked: bool,
+    sink: Text,
+    errors: Text,
+) -> Result<Called, NoMemory>
     ensures whole { IfOk result (λ _. (sink.failures ≡ 0) × (errors.failures ≡ 0)) }
     ensures status { IfOk result (λ x. x.status ≡ status_of_ending ending) }
     ensures printed { IfOk result (λ x. x.printed.items ≡ sink.bytes.items) }

@@ -1,0 +1,57 @@
+//! The pointer to a judge, as a host keeps it.
+
+ghost use Rattle.std.specs.Prelude.{◌≡◌, ◌≢◌, Option, Some, None};
+ghost use Rattle.std.specs.Coded.{coded_option};
+ghost use Rattle.mencius_exports.specs.Holdings.{held_owns};
+ghost use Rattle.mencius_exports.specs.declared.judging.Judging.{Judging};
+ghost use Rattle.mencius_exports.specs.contracts.judging.Judging.{the_row};
+
+use crate::judging::Judging;
+use crate::loose::Loose;
+use std::alloc::Global;
+use std::marker::Model;
+use std::ptr::null_mut;
+
+/// The pointer to a judge, or null. It owns the judge. To drop it loses the judge.
+#[repr(C)]
+#[derive(Drop)]
+pub struct Held {
+    at: *mut u8,
+    ghost value: { Option Judging } by { coded_option the_row.coded },
+}
+
+impl Model for Held {
+    ghost also_owns = { λ h. held_owns the_row h.at h.value };
+}
+
+impl Held {
+    /// Makes a null pointer.
+    pub(crate) fn empty() -> Held
+        ensures { result.value ≡ None }
+    {
+        Held { at: null_mut() }
+    }
+
+    /// Keeps the pointer of a box. The allocator takes no memory, so any other one can free the box.
+    pub(crate) fn of(loose: Loose<Judging, Global>) -> Held
+        ensures { result.value ≡ Some loose.value }
+    {
+        let Loose { at, alloc: _ } = loose;
+        Held { at: at as *mut u8 }
+    }
+
+    /// Makes the box again.
+    pub(crate) fn into_loose(self, alloc: Global) -> Loose<Judging, Global>
+        requires { self.value ≢ None }
+        ensures { self.value ≡ Some result.value }
+    {
+        let Held { at } = self;
+        Loose {
+            at: at as *mut Judging,
+            alloc,
+        }
+    }
+}
+
+// The judge has no part that counts owners or is locked, so it may go to another thread.
+unsafe impl Send for Held {}
