@@ -1,10 +1,11 @@
 /* The program `mencius` as C functions. mencius_call does the work of the program on bytes in memory, and mencius_state
- * returns what each server of a cluster knows after a schedule.
+ * returns what each server of a cluster knows after a schedule. The functions that begin with mencius_judge_ judge a
+ * log that arrives in pieces.
  *
  * The functions use no file, no clock and no environment variable. They access the memory that you pass to them, and
- * memory from malloc and realloc, which they free before they return. They keep no state between calls. So several
- * threads may call them at the same time, if no two calls share an output buffer or an answer. A call needs 128 kB of
- * stack. Do not call these functions from a signal handler.
+ * memory from malloc and realloc, which they free before they return, except the memory of a judge. They keep no state
+ * between calls, except in a judge. So several threads may call them at the same time, if no two calls share an output
+ * buffer, an answer or a judge. A call needs 128 kB of stack. Do not call these functions from a signal handler.
  *
  * Link with libmencius.a or libmencius.so, and with the C library only. docs/EMBEDDING.md explains how. */
 #ifndef MENCIUS_H
@@ -47,6 +48,34 @@ void mencius_call(const uint8_t *words, size_t words_length, const uint8_t *inpu
  * does with the argument `trace`. */
 void mencius_state(const uint8_t *input, size_t input_length, uint8_t *printed, size_t printed_room, uint8_t *said,
                    size_t said_room, struct mencius_answer *answer);
+
+/* A judge that takes a log in pieces. You own this memory. Set all of it to zero (`struct mencius_judge judge =
+ * {0};`), then call mencius_judge_begin. Only these functions may read or write it, and you may not copy it. Its calls
+ * may come from several threads, one call at a time. A lock, or the start or end of a thread, must order them. */
+struct mencius_judge {
+    uint8_t is_begun;
+    void *state;
+};
+
+/* Begins to judge a log. `is_brief` and `is_json` are 0 or 1, and stand for the options `--brief` and `--json` of
+ * `mencius judge`. If `judge` already has a judge, frees it first. If there is no memory, the calls below report
+ * status 5. */
+void mencius_judge_begin(struct mencius_judge *judge, uint8_t is_brief, uint8_t is_json);
+
+/* Gives the judge the next bytes of the log. A piece may end within a line. As long as the judge has no verdict, the
+ * answer has the status 0, no texts, and 1 as `asked`. Once a line breaks a promise or is bad, `asked` is 0, and the
+ * status and the texts are those of `mencius judge`. The judge keeps this verdict, and takes nothing more. So if a
+ * text did not fit, call again with the sizes that the answer gives. Buffers and lengths are as for mencius_call. */
+void mencius_judge_take(struct mencius_judge *judge, const uint8_t *bytes, size_t bytes_length, uint8_t *printed,
+                        size_t printed_room, uint8_t *said, size_t said_room, struct mencius_answer *answer);
+
+/* Reports the verdict on the log if it ends here. The judge stays the same, so it may take more bytes after that. If
+ * a text did not fit, call again with the sizes that the answer gives. */
+void mencius_judge_verdict(struct mencius_judge *judge, uint8_t *printed, size_t printed_room, uint8_t *said,
+                           size_t said_room, struct mencius_answer *answer);
+
+/* Frees the memory of the judge, if there is one. After that, `judge` is as before mencius_judge_begin. */
+void mencius_judge_free(struct mencius_judge *judge);
 
 #ifdef __cplusplus
 }

@@ -2,7 +2,7 @@
 export interface Answer {
   /** The exit status: 0 is success, and `mencius help TASK` lists the others. */
   status: number;
-  /** Whether the call read its input. */
+  /** Whether the call read its input. It is false in a verdict of a `Judge`. */
   asked: boolean;
   /** The bytes that the program writes to standard output, in UTF-8. */
   printed: Uint8Array;
@@ -31,3 +31,35 @@ export function mencius(args: readonly (string | Uint8Array)[], input?: Uint8Arr
  * @throws TypeError if `input` is not bytes
  */
 export function state(input: Uint8Array): Answer;
+
+/** The options of a judge. */
+export interface JudgeOptions {
+  /** Whether the text of a verdict has only the line of the verdict. */
+  brief?: boolean;
+  /** Whether the text of a verdict is one JSON object. */
+  json?: boolean;
+}
+
+/**
+ * A judge that takes a log in pieces. A piece may end within a line. The judge keeps no line after its end.
+ *
+ * @example
+ * const judge = new Judge({ json: true });
+ * const broken = judge.take(new TextEncoder().encode('execute 0 1.0\n'));
+ * console.log(broken, judge.verdict().status);
+ */
+export class Judge {
+  /** @throws TypeError if an option is neither true nor false */
+  constructor(options?: JudgeOptions);
+
+  /**
+   * Takes the next bytes of the log. Returns the verdict if a line breaks a promise or is bad, and `null` otherwise.
+   * After a verdict, the judge takes nothing more, and returns the same verdict again.
+   *
+   * @throws TypeError if `bytes` is not bytes
+   */
+  take(bytes: Uint8Array): Answer | null;
+
+  /** Returns the verdict on the log if it ends here. The judge may take more bytes after that. */
+  verdict(): Answer;
+}

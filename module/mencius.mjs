@@ -4,67 +4,82 @@
 //     node mencius.mjs replay|trace|draw|check|judge|run [OPTIONS] < INPUT
 //
 // This is the command line of mencius. A run has no threads, so its workers take their turns one after the other.
-import { fstatSync, readFileSync, readSync, realpathSync, writeSync } from 'node:fs';
+import { readFileSync, readSync, realpathSync, writeSync } from 'node:fs';
 import { fileURLToPath } from 'node:url';
 import { inspect, types } from 'node:util';
 
 const MOST = 16_777_217; // bytes that are read of a scenario: one more than the longest scenario has
 const MOST_OF_A_LOG = 2 ** 31; // bytes; a log of this length gets NoMemory, and its first part gets no verdict
-const MOST_OF_A_LINE = 1_024; // bytes of a line of a log
+const JUDGE = 16; // bytes of a judge, which are zero at first
 const bytes = readFileSync(process.env.MENCIUS_MODULE || fileURLToPath(new URL('mencius.wasm', import.meta.url)));
-let exports;
+let code; // the compiled module
+let exports; // the exports of the instance that makes calls
 
-// The exports of the module. Starts the module at the first call, and again after a call that trapped.
-function module() {
-  exports ??= new WebAssembly.Instance(new WebAssembly.Module(bytes), {}).exports;
-  return exports;
+// Starts an instance of the module, and returns its exports.
+function start() {
+  code ??= new WebAssembly.Module(bytes);
+  return new WebAssembly.Instance(code, {}).exports;
 }
 
 const wide = BigInt; // sizes and addresses have 64 bits, even though the memory was lowered to 32
 const sleep = () => Atomics.wait(new Int32Array(new SharedArrayBuffer(4)), 0, 0, 5);
 const noMemory = () => { throw new RangeError('the module has no memory'); };
-const bytesAt = (at, length) => new Uint8Array(module().memory.buffer, Number(at), length);
+const bytesAt = (x, at, length) => new Uint8Array(x.memory.buffer, Number(at), length);
 
-function room(length) {
-  const at = module().mencius_room(wide(length + 1));
+// Allocates room in the memory of an instance. `x` are its exports, here and below.
+function room(x, length) {
+  const at = x.mencius_room(wide(length + 1));
   return Number(at) === 0 ? noMemory() : at;
 }
 
-// Copies these bytes to the memory of the module, and returns their address.
-function put(bytes) {
-  const at = room(bytes.length);
-  bytesAt(at, bytes.length).set(bytes);
+// Copies these bytes to the memory of an instance, and returns their address.
+function put(x, bytes) {
+  const at = room(x, bytes.length);
+  bytesAt(x, at, bytes.length).set(bytes);
   return at;
 }
 
-// Calls an export with these inputs, and with buffers of these sizes for both texts. Returns the numbers of the answer,
-// and the texts if both fit.
-function call(name, inputs, printedRoom, saidRoom) {
-  const x = module();
-  const given = inputs.map(bytes => [put(bytes), wide(bytes.length)]);
-  const [out, err, answer] = [room(printedRoom), room(saidRoom), room(32)];
-  x[name](...given.flat(), out, wide(printedRoom), err, wide(saidRoom), answer);
+// Calls an export with these first arguments, these inputs, and buffers of these sizes for both texts. Returns the
+// numbers of the answer, and the texts if both fit.
+function call(x, name, first, inputs, printedRoom, saidRoom) {
+  const given = inputs.map(bytes => [put(x, bytes), wide(bytes.length)]);
+  const [out, err, answer] = [room(x, printedRoom), room(x, saidRoom), room(x, 32)];
+  x[name](...first, ...given.flat(), out, wide(printedRoom), err, wide(saidRoom), answer);
   const [status, printed, said, asked] =
     [...new BigUint64Array(x.memory.buffer.slice(Number(answer), Number(answer) + 32))].map(Number);
   const fits = printed <= printedRoom && said <= saidRoom;
-  const texts = fits ? { printed: bytesAt(out, printed).slice(), said: bytesAt(err, said).slice() } : null;
+  const texts = fits ? { printed: bytesAt(x, out, printed).slice(), said: bytesAt(x, err, said).slice() } : null;
   for (const at of [...given.map(([at]) => at), out, err, answer]) x.mencius_give(at);
   return { status, asked: asked !== 0, lengths: [printed, said], texts };
 }
 
-// Calls an export with these inputs. The last input is a scenario or a log. The output for a scenario is rarely longer
-// than eight times the scenario, so `times` is 8. The output for a log is one line, so `times` is 0.
-function ask(name, inputs, times = 8) {
+// What a call returns if the module stopped.
+function stopped(why) {
+  const said = `mencius: fault 26 NoMemory\nmencius: the module stopped: ${why}\n`;
+  return { status: 5, asked: true, printed: new Uint8Array(0), said: Buffer.from(said) };
+}
+
+// Does something with an instance. If the module stops, forgets the instance, because nothing is known of its memory.
+function guarded(action, forget) {
   try {
-    let { status, asked, lengths, texts } = call(name, inputs, 65_536 + times * inputs.at(-1).length, 4_096);
-    if (!texts) ({ texts } = call(name, inputs, ...lengths));
-    return { status, asked, ...texts };
+    return action();
   } catch (e) {
-    exports = undefined;
+    forget();
     if (!(e instanceof RangeError || e instanceof WebAssembly.RuntimeError)) throw e;
-    const said = `mencius: fault 26 NoMemory\nmencius: the module stopped: ${e.message}\n`;
-    return { status: 5, asked: true, printed: new Uint8Array(0), said: Buffer.from(said) };
+    return stopped(e.message);
   }
+}
+
+// Calls an export with these inputs. The last input is a scenario or a log. The output for a scenario is rarely longer
+// than eight times the scenario, so `times` is 8. The output for a log is one line, so `times` is 0. If the module
+// stops, the next call starts it anew.
+function ask(name, inputs, times = 8) {
+  return guarded(() => {
+    const x = exports ??= start();
+    let { status, asked, lengths, texts } = call(x, name, [], inputs, 65_536 + times * inputs.at(-1).length, 4_096);
+    if (!texts) ({ texts } = call(x, name, [], inputs, ...lengths));
+    return { status, asked, ...texts };
+  }, () => { exports = undefined; });
 }
 
 // A short text of a value, for a message.
@@ -84,6 +99,11 @@ function checkArguments(args) {
   }
 }
 
+function checkOptions(options) {
+  const wrong = Object.entries(options).find(([, value]) => typeof value !== 'boolean' && value !== undefined);
+  if (wrong) throw new TypeError(`Judge: expected true or false as the option ${wrong[0]}, but got ${shown(wrong[1])}`);
+}
+
 function checkInput(name, input) {
   if (types.isUint8Array(input)) return;
   const hint = typeof input === 'string' ? '. Pass new TextEncoder().encode(text)' : '';
@@ -101,10 +121,76 @@ export function mencius(args, input = new Uint8Array(0)) {
 
 const isJudge = args => args.length > 0 && Buffer.from(args[0]).equals(Buffer.from('judge'));
 
-// What each server knows after this scenario of `replay`. See docs/EMBEDDING.md, "What servers know". The input is bytes.
+// What each server knows after this scenario of `replay`. See docs/EMBEDDING.md, "What servers know". The input is
+// bytes.
 export function state(input) {
   checkInput('state', input);
   return ask('mencius_state', [input]);
+}
+
+// A judge that takes a log in pieces. It keeps what it needs to judge the rest, and no line after its end. It has an
+// instance of the module of its own. See docs/EMBEDDING.md, "A log in pieces".
+export class Judge {
+  #exports;
+  #at;
+  #final = null;
+
+  constructor({ brief, json } = {}) {
+    checkOptions({ brief, json });
+    this.#guard(() => {
+      const x = this.#exports = start();
+      this.#at = room(x, JUDGE);
+      bytesAt(x, this.#at, JUDGE).fill(0);
+      x.mencius_judge_begin(this.#at, Number(brief ?? false), Number(json ?? false));
+    });
+  }
+
+  // Takes the next bytes of the log. Returns the verdict as soon as there is one, and null before that.
+  take(bytes) {
+    checkInput('take', bytes);
+    if (this.#final) return this.#final;
+    const answer = this.#ask('mencius_judge_take', [bytes]);
+    if (answer.asked) return null;
+    this.#exports = undefined;
+    return this.#final = answer;
+  }
+
+  // The verdict on the log if it ends here. The judge may take more bytes after that.
+  verdict() {
+    return this.#final ?? this.#ask('mencius_judge_verdict', []);
+  }
+
+  #ask(name, inputs) {
+    return this.#guard(() => {
+      // Most pieces give no verdict, and then there are no texts.
+      let { status, asked, lengths, texts } = call(this.#exports, name, [this.#at], inputs, 0, 0);
+      // The judge gives the same verdict again. After a final verdict, it ignores its bytes.
+      if (!texts) ({ texts } = call(this.#exports, name, [this.#at], inputs, ...lengths));
+      return { status, asked, ...texts };
+    });
+  }
+
+  // If the module stops, this is the final verdict.
+  #guard(action) {
+    let hasStopped = false;
+    const answer = guarded(action, () => { hasStopped = true; });
+    if (!hasStopped) return answer;
+    this.#exports = undefined;
+    return this.#final = { ...answer, asked: false };
+  }
+}
+
+// Reads some bytes of standard input. Returns their number, which is 0 at the end, or -1 if reading failed.
+function readSome(part) {
+  for (;;) {
+    try {
+      return readSync(0, part);
+    } catch (e) {
+      if (e.code === 'EOF') return 0;
+      if (e.code !== 'EAGAIN') return -1;
+      sleep();
+    }
+  }
 }
 
 // Reads standard input to its end, or up to `most` bytes. Also returns whether reading failed.
@@ -112,58 +198,23 @@ function readInput(most) {
   const parts = [];
   for (let length = 0; length < most;) {
     const part = Buffer.allocUnsafe(Math.min(65_536, most - length));
-    let count;
-    try {
-      count = readSync(0, part);
-    } catch (e) {
-      if (e.code === 'EOF') break;
-      if (e.code === 'EAGAIN') { sleep(); continue; }
-      return [Buffer.concat(parts), true];
-    }
-    if (count === 0) break;
+    const count = readSome(part);
+    if (count <= 0) return [Buffer.concat(parts), count < 0];
     parts.push(part.subarray(0, count));
     length += count;
   }
   return [Buffer.concat(parts), false];
 }
 
-// Whether standard input may grow while it is read.
-function isOpen() {
-  const input = fstatSync(0);
-  return !input.isFile() && !input.isDirectory();
-}
-
-// Whether this answer is final. Later lines can change `ok` and `unjudged`, but not a broken promise, a bad line or a lack
-// of memory.
-function isFinal({ status, printed }) {
-  const start = Buffer.from(printed.slice(0, 32)).toString('latin1');
-  return status > 1 || /^(?:violation |{"verdict":"violation")/.test(start);
-}
-
-// Judges a log while it arrives. It repeatedly judges all whole lines that have arrived. After each judgement, it pauses
-// for as long as the judgement took.
-function judgeAsItComes(args) {
-  let log = Buffer.allocUnsafe(65_536), length = 0, pause = 0, timer;
-  return new Promise(resolve => {
-    const look = isWhole => {
-      timer = undefined;
-      const lines = log.subarray(0, length).lastIndexOf(10) + 1;
-      // A line that is too long is judged even before its end arrives.
-      const end = isWhole || length - lines > MOST_OF_A_LINE ? length : lines;
-      const begin = performance.now();
-      const answer = mencius(args, log.subarray(0, end));
-      pause = performance.now() - begin;
-      if (isWhole || isFinal(answer)) resolve(tell(answer));
-    };
-    process.stdin.on('data', part => {
-      if (length + part.length >= MOST_OF_A_LOG) return resolve(failed('26 NoMemory', 5));
-      if (length + part.length > log.length) log = Buffer.concat([log], 2 * (length + part.length));
-      length += part.copy(log, length);
-      timer ??= setTimeout(look, pause, false);
-    });
-    process.stdin.on('end', () => look(true));
-    process.stdin.on('error', () => resolve(failed('24 ReadFailed')));
-  });
+// Judges a log while it is read. A line is not kept after its end.
+function judgeInPieces(args) {
+  const judge = new Judge({ brief: args.includes('--brief'), json: args.includes('--json') });
+  for (const part = Buffer.allocUnsafe(65_536);;) {
+    const count = readSome(part);
+    if (count < 0) return failed('24 ReadFailed');
+    const verdict = count === 0 ? judge.verdict() : judge.take(part.subarray(0, count));
+    if (verdict) return tell(verdict);
+  }
 }
 
 // Writes the bytes, and returns whether all of them could be written.
@@ -204,10 +255,10 @@ function tell(answer) {
   return answer.status;
 }
 
-async function main(args) {
+function main(args) {
   let answer = mencius(args);
   if (answer.asked) {
-    if (isJudge(args) && isOpen()) return judgeAsItComes(args);
+    if (isJudge(args) && !args.includes('--clients')) return judgeInPieces(args);
     const [input, hasFailed] = readInput(isJudge(args) ? MOST_OF_A_LOG : MOST);
     if (hasFailed) return failed('24 ReadFailed' + (isJudge(args) ? '' : '\nthe scenario could not be read to its end'));
     if (input.length === MOST_OF_A_LOG) return failed('26 NoMemory', 5);
@@ -226,4 +277,4 @@ function isProgram() {
 }
 
 // Exits at once, because the verdict may come before the end of the log.
-if (isProgram()) main(readArguments()).then(status => process.exit(status));
+if (isProgram()) process.exit(main(readArguments()));

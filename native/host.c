@@ -1,8 +1,9 @@
-/* The two calls of mencius.h, over the C that wasm2c makes from module/mencius.wasm. native/translate compiles this
+/* The calls of mencius.h, over the C that wasm2c makes from module/mencius.wasm. native/translate compiles this
  * file together with the runtime of wasm2c.
  *
- * Each call starts an instance of the module and frees it at the end. So no call sees another, and several threads may
- * call at once. If the module stops by itself or runs out of memory, the call ends with status 5. */
+ * Each call starts an instance of the module and frees it at the end. A judge has an instance of its own. So no call
+ * sees another, and several threads may call at once. If the module stops by itself or runs out of memory, the call
+ * ends with status 5. */
 #define _GNU_SOURCE
 #include <pthread.h>
 #include <setjmp.h>
@@ -99,10 +100,13 @@ static void *take_zeros(size_t count, size_t size)
 #undef free
 #undef memset
 
+enum task { CALL, STATE, TAKE, VERDICT };
+
 struct call {
-    const uint8_t *words; /* null for mencius_state */
+    enum task task;
+    const uint8_t *words; /* of mencius_call */
     size_t words_length;
-    const uint8_t *input;
+    const uint8_t *input; /* null for mencius_judge_verdict */
     size_t input_length;
     uint8_t *printed, *said;
     size_t printed_room, said_room;
@@ -134,21 +138,36 @@ static uint64_t put(instance *module, const uint8_t *bytes, size_t length)
     return at;
 }
 
-static void call_module(instance *module, const struct call *c)
+/* Makes a call. `judge` is the address of a judge in the memory of the module, for the tasks TAKE and VERDICT. */
+static void call_module(instance *module, uint64_t judge, const struct call *c)
 {
     uint64_t words = c->words ? put(module, c->words, c->words_length) : 0;
-    uint64_t input = put(module, c->input, c->input_length);
+    uint64_t input = c->input ? put(module, c->input, c->input_length) : 0;
     uint64_t printed = room(module, c->printed_room), said = room(module, c->said_room);
     uint64_t answer = room(module, sizeof *c->answer);
-    if (c->words)
+    switch (c->task) {
+    case CALL:
         EXPORT(mencius_call)(module, words, c->words_length, input, c->input_length, printed, c->printed_room, said,
                              c->said_room, answer);
-    else
+        break;
+    case STATE:
         EXPORT(mencius_state)(module, input, c->input_length, printed, c->printed_room, said, c->said_room, answer);
+        break;
+    case TAKE:
+        EXPORT(mencius_judge_take)(module, judge, input, c->input_length, printed, c->printed_room, said, c->said_room,
+                                   answer);
+        break;
+    case VERDICT:
+        EXPORT(mencius_judge_verdict)(module, judge, printed, c->printed_room, said, c->said_room, answer);
+        break;
+    }
     const uint8_t *memory = EXPORT(memory)(module)->data;
     memcpy(c->answer, memory + answer, sizeof *c->answer);
     if (c->answer->printed <= c->printed_room) memcpy(c->printed, memory + printed, c->answer->printed);
     if (c->answer->said <= c->said_room) memcpy(c->said, memory + said, c->answer->said);
+    const uint64_t rooms[] = {words, input, printed, said, answer};
+    for (size_t i = 0; i < sizeof rooms / sizeof *rooms; i++)
+        if (rooms[i]) EXPORT(mencius_give)(module, rooms[i]);
 }
 
 /* The answer of a call that could not go on. */
@@ -175,7 +194,7 @@ static void try_to_call(instance *module, const struct call *c)
     way_out = &place;
     INSTANTIATE(module);
     EXPORT(memory)(module)->max_pages = MOST_PAGES;
-    call_module(module, c);
+    call_module(module, 0, c);
 }
 
 static void run(const struct call *c)
@@ -192,12 +211,90 @@ void mencius_call(const uint8_t *words, size_t words_length, const uint8_t *inpu
                   uint8_t *printed, size_t printed_room, uint8_t *said, size_t said_room,
                   struct mencius_answer *answer)
 {
-    run(&(struct call){words, words_length, input, input_length, printed, said, printed_room, said_room, answer});
+    run(&(struct call){CALL, words, words_length, input, input_length, printed, said, printed_room, said_room, answer});
 }
 
 __attribute__((visibility("default")))
 void mencius_state(const uint8_t *input, size_t input_length, uint8_t *printed, size_t printed_room, uint8_t *said,
                    size_t said_room, struct mencius_answer *answer)
 {
-    run(&(struct call){NULL, 0, input, input_length, printed, said, printed_room, said_room, answer});
+    run(&(struct call){STATE, NULL, 0, input, input_length, printed, said, printed_room, said_room, answer});
+}
+
+/* A judge has an instance of the module of its own. */
+enum { JUDGE_SIZE = 16 };
+
+struct held {
+    instance module;
+    uint64_t judge; /* its address in the memory of the module */
+    int reason;     /* why the module stopped, or 0 */
+};
+
+static void begin(struct held *held, int is_brief, int is_json)
+{
+    jmp_buf place;
+    held->reason = setjmp(place);
+    if (held->reason) return;
+    way_out = &place;
+    INSTANTIATE(&held->module);
+    EXPORT(memory)(&held->module)->max_pages = MOST_PAGES;
+    held->judge = room(&held->module, JUDGE_SIZE);
+    memset(EXPORT(memory)(&held->module)->data + held->judge, 0, JUDGE_SIZE);
+    EXPORT(mencius_judge_begin)(&held->module, held->judge, is_brief, is_json);
+}
+
+static void ask(struct held *held, const struct call *c)
+{
+    jmp_buf place;
+    if (!held) {
+        *c->answer = (struct mencius_answer){.status = 5};
+        return;
+    }
+    int reason = held->reason;
+    if (!reason && !(reason = setjmp(place))) {
+        way_out = &place;
+        call_module(&held->module, held->judge, c);
+        return;
+    }
+    held->reason = reason;
+    answer_without_module(c, reason);
+    c->answer->asked = 0;
+}
+
+__attribute__((visibility("default")))
+void mencius_judge_free(struct mencius_judge *judge)
+{
+    struct held *held = judge->state;
+    if (held) {
+        FREE(&held->module);
+        free(held);
+    }
+    memset(judge, 0, sizeof *judge);
+}
+
+__attribute__((visibility("default")))
+void mencius_judge_begin(struct mencius_judge *judge, uint8_t is_brief, uint8_t is_json)
+{
+    mencius_judge_free(judge);
+    pthread_once(&is_started, start);
+    struct held *held = calloc(1, sizeof *held);
+    if (!held) return;
+    begin(held, is_brief, is_json);
+    judge->is_begun = 1;
+    judge->state = held;
+}
+
+__attribute__((visibility("default")))
+void mencius_judge_take(struct mencius_judge *judge, const uint8_t *bytes, size_t bytes_length, uint8_t *printed,
+                        size_t printed_room, uint8_t *said, size_t said_room, struct mencius_answer *answer)
+{
+    ask(judge->state,
+        &(struct call){TAKE, NULL, 0, bytes, bytes_length, printed, said, printed_room, said_room, answer});
+}
+
+__attribute__((visibility("default")))
+void mencius_judge_verdict(struct mencius_judge *judge, uint8_t *printed, size_t printed_room, uint8_t *said,
+                           size_t said_room, struct mencius_answer *answer)
+{
+    ask(judge->state, &(struct call){VERDICT, NULL, 0, NULL, 0, printed, said, printed_room, said_room, answer});
 }

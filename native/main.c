@@ -11,8 +11,6 @@
 #include <stdio.h>
 #include <stdlib.h>
 #include <string.h>
-#include <sys/stat.h>
-#include <time.h>
 #include <unistd.h>
 
 #include "mencius.h"
@@ -21,7 +19,6 @@ enum { READ_OR_WRITE_FAILED = 4, OUT_OF_MEMORY = 5 };
 
 #define MOST 16777217ul            /* bytes that are read of a scenario: one more than the longest scenario has */
 #define MOST_OF_A_LOG 2147483648ul /* bytes; a log of this length gets NoMemory, and its first part gets no verdict */
-#define MOST_OF_A_LINE 1024ul      /* bytes of a line of a log */
 
 struct bytes {
     uint8_t *at;
@@ -110,62 +107,34 @@ static int read_some(size_t most)
     }
 }
 
-static double milliseconds(void)
+/* Whether this is one of the arguments. */
+static int has_word(int argc, char **argv, const char *word)
 {
-    struct timespec now;
-    clock_gettime(CLOCK_MONOTONIC, &now);
-    return 1e3 * (double)now.tv_sec + (double)now.tv_nsec / 1e6;
+    for (int i = 2; i < argc; i++)
+        if (strcmp(argv[i], word) == 0) return 1;
+    return 0;
 }
 
-static int begins(const char *text)
+/* Judges a log while it is read. A line is not kept after its end. */
+static void judge_in_pieces(int is_brief, int is_json)
 {
-    size_t length = strlen(text);
-    return answer.printed >= length && memcmp(printed.at, text, length) == 0;
-}
-
-/* Whether later lines can't change the answer. They can change `ok` and `unjudged`, but not a broken promise, a bad
- * line or a lack of memory. */
-static int is_final(void)
-{
-    return answer.status > 1 || begins("violation ") || begins("{\"verdict\":\"violation\"");
-}
-
-/* The length of the whole lines that were read. A line that is too long is judged even before its end arrives. */
-static size_t judged_length(void)
-{
-    size_t end = input.length;
-    while (end && input.at[end - 1] != '\n') end--;
-    return input.length - end > MOST_OF_A_LINE ? input.length : end;
-}
-
-/* Judges a log while it arrives. It repeatedly judges all whole lines that have arrived. After each judgement, it
- * pauses for as long as the judgement took. */
-static void judge_as_it_comes(void)
-{
-    double due = 0;
-    for (int is_new = 0;;) {
-        double pause = due - milliseconds();
-        int wait = !is_new ? -1 : pause > 0 ? (int)pause + 1 : 0;
-        if (poll(&(struct pollfd){.fd = 0, .events = POLLIN}, 1, wait) > 0) {
-            if (!read_some(65536)) return;
-            if (input.length >= MOST_OF_A_LOG) return;
-            is_new = 1;
+    struct mencius_judge judge = {0};
+    mencius_judge_begin(&judge, is_brief, is_json);
+    for (int is_read = 1; is_read;) {
+        input.length = 0;
+        is_read = read_some(65536);
+        for (int i = 0; i < 2; i++) {
+            if (is_read)
+                mencius_judge_take(&judge, input.at, input.length, printed.at, printed.room, said.at, said.room,
+                                   &answer);
+            else
+                mencius_judge_verdict(&judge, printed.at, printed.room, said.at, said.room, &answer);
+            if (answer.printed <= printed.room && answer.said <= said.room) break;
+            make_room(&printed, answer.printed);
+            make_room(&said, answer.said);
         }
-        if (is_new && milliseconds() >= due) {
-            double begin = milliseconds();
-            call(judged_length());
-            if (is_final()) tell();
-            due = 2 * milliseconds() - begin;
-            is_new = 0;
-        }
+        if (!answer.asked) tell();
     }
-}
-
-/* Whether standard input may grow while it is read. */
-static int is_open(void)
-{
-    struct stat about;
-    return fstat(0, &about) == 0 && !S_ISREG(about.st_mode) && !S_ISDIR(about.st_mode);
 }
 
 int main(int argc, char **argv)
@@ -178,7 +147,8 @@ int main(int argc, char **argv)
     call(0);
     if (answer.asked) {
         size_t most = is_judge ? MOST_OF_A_LOG : MOST;
-        if (is_judge && is_open()) judge_as_it_comes();
+        if (is_judge && !has_word(argc, argv, "--clients"))
+            judge_in_pieces(has_word(argc, argv, "--brief"), has_word(argc, argv, "--json"));
         while (input.length < most && read_some(most - input.length)) continue;
         if (is_judge && input.length >= most) fail("26 NoMemory", OUT_OF_MEMORY);
         call(input.length);

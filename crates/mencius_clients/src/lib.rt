@@ -32,6 +32,3 @@ pub use client_log::{ClientLog, read_log};
 pub use client_verdict::{ClientJudgement, ClientVerdict, GiveUp};
 pub use explanation::{Cause, Explanation, explain};
 pub use first_lines::{FirstLine, first_line};
-
-#[cfg(test)]
-mod tests;

@@ -3,7 +3,7 @@
 //! with its tests.
 //!
 //! The parts are commands and outboxes, single instances, single servers, the map, boards with their readers and
-//! workers, and the judge of logs. The other tests cover each call of a cluster, the conclusions of callers, workers and
+//! workers, and the judges of logs. The other tests cover each call of a cluster, the conclusions of callers, workers and
 //! readers on a board, and readers and writers that fail.
 #![tactic(auto)]
 
@@ -15,6 +15,8 @@ mod board;
 mod callers;
 #[cfg(test)]
 mod calls;
+#[cfg(test)]
+mod clients;
 #[cfg(test)]
 mod courses;
 #[cfg(test)]

@@ -4,7 +4,7 @@ import threading
 from dataclasses import dataclass
 from typing import Any, Dict, Optional, Tuple, Union
 
-from .library import text_of
+from .library import LogJudge, checked, text_of
 
 
 @dataclass(frozen=True)
@@ -41,7 +41,11 @@ class Violation(Exception):
 def judge(log: Union[str, bytes]) -> Verdict:
     """Judges a whole log. Raises Fault if a line is not an observation."""
     data = log.encode("utf-8", "surrogatepass") if isinstance(log, str) else log
-    found = json.loads(text_of(["judge", "--json"], data))
+    return _verdict_in(text_of(["judge", "--json"], data))
+
+
+def _verdict_in(text: str) -> Verdict:
+    found = json.loads(text)
     lines = tuple(LogLine(line["line"], line["text"]) for line in found.pop("lines", ()))
     return Verdict(found.pop("verdict"), found.pop("promise", None), found.pop("line", None), lines,
                    found.pop("sentence", None), found)
@@ -50,15 +54,14 @@ def judge(log: Union[str, bytes]) -> Verdict:
 class Judge:
     """Judges observations while they are made. Several threads may add them.
 
-    It judges the log after each of the first 64 observations, then each time that the log has grown by an eighth, and
-    at the end of the `with` block. It raises Violation at the first of these moments at which a promise is broken.
-    `verdict` judges all observations at once.
+    It judges each observation at once, and raises Violation at the first one that breaks a promise. It keeps what it
+    needs to judge the rest, and not the log. `verdict` is the verdict on all observations so far.
+
+    An observation after a violation raises it again.
     """
-    EACH = 64
 
     def __init__(self) -> None:
-        self._log = bytearray()
-        self._count = self._due = 0
+        self._judge = LogJudge(is_json=True)
         self._lock = threading.Lock()
 
     def __enter__(self) -> "Judge":
@@ -71,20 +74,16 @@ class Judge:
     def verdict(self) -> Verdict:
         """The verdict on all observations so far."""
         with self._lock:
-            return judge(bytes(self._log))
+            return _verdict_in(checked(self._judge.verdict()))
 
     def observe(self, line: str) -> None:
-        """Adds a line of a log, such as `settled 0`."""
+        """Adds a line of a log, such as `settled 0`. Raises Fault if it is not an observation."""
         if "\n" in line:
             raise ValueError(f"an observation is one line, but this has several: {line!r}")
         with self._lock:
-            self._log += line.encode("utf-8", "surrogatepass") + b"\n"
-            self._count += 1
-            if self._count < self._due:
-                return
-            found = judge(bytes(self._log))
-            self._due = self._count + (1 if self._count < self.EACH else self._count // 8)
-        self._raise(found)
+            found = self._judge.take(line.encode("utf-8", "surrogatepass") + b"\n")
+        if found is not None:
+            self._raise(_verdict_in(checked(found)))
 
     def submit(self, command: str, operation: str, key: str, *texts: str) -> None:
         """A client submitted a command, such as submit("1.0", "set", "a", "x")."""

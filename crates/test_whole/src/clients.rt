@@ -1,6 +1,8 @@
-//! Logs and their verdicts.
+//! Tests of the judge of what clients saw: logs, their verdicts, and the lines that report these.
 
-use crate::{
+use crate::same::assert_same;
+use mencius_base::CommandId;
+use mencius_clients::{
     Cause, ClientVerdict, Explanation, FirstLine, explain, first_line, judge_clients,
     push_client_verdict, push_order,
 };
@@ -12,7 +14,7 @@ use std::test::Fail;
 
 const LOGS: [(&str, &str); 27] = [
     ("", "yes"),
-    // a read behind a write
+    // A read comes after a write.
     (
         "submit 1.0 set a x\nreply 1.0 none\nsubmit 2.0 get a\nreply 2.0 =x",
         "yes",
@@ -21,7 +23,7 @@ const LOGS: [(&str, &str); 27] = [
         "submit 1.0 set a x\nreply 1.0 none\nsubmit 2.0 get a\nreply 2.0 none",
         "no",
     ),
-    // beside one
+    // A write and a read overlap in time.
     (
         "submit 1.0 set a x\nsubmit 2.0 get a\nreply 2.0 none\nreply 1.0 none",
         "yes",
@@ -30,7 +32,7 @@ const LOGS: [(&str, &str); 27] = [
         "submit 1.0 set a x\nsubmit 2.0 get a\nreply 2.0 =x\nreply 1.0 none",
         "yes",
     ),
-    // what was seen stays, also of a write without a reply
+    // Once a read has found a text, later reads find it too, even if the write has no reply.
     (
         "submit 1.0 set a x\nsubmit 2.0 get a\nreply 2.0 =x\nsubmit 2.1 get a\nreply 2.1 none",
         "no",
@@ -39,12 +41,12 @@ const LOGS: [(&str, &str); 27] = [
         "submit 1.0 set a x\nsubmit 2.0 get a\nreply 2.0 none\nsubmit 2.1 get a\nreply 2.1 =x",
         "yes",
     ),
-    // each write takes effect once
+    // Each write takes effect once.
     (
         "submit 1.0 set a x\nsubmit 2.0 del a\nreply 2.0 =x\nsubmit 2.1 get a\nreply 2.1 =x",
         "no",
     ),
-    // the reply of a write is the former text
+    // The reply to a write is the former text.
     (
         "submit 1.0 set a x\nsubmit 2.0 set a y\nreply 1.0 =y\nreply 2.0 none",
         "yes",
@@ -53,7 +55,7 @@ const LOGS: [(&str, &str); 27] = [
         "submit 1.0 set a x\nsubmit 2.0 set a y\nreply 1.0 =y\nreply 2.0 =x",
         "no",
     ),
-    // compare and set
+    // Compare and set.
     (
         "submit 1.0 set a x\nreply 1.0 none\nsubmit 2.0 cas a x y\nreply 2.0 =x\nsubmit 1.1 get a\nreply 1.1 =y",
         "yes",
@@ -62,28 +64,28 @@ const LOGS: [(&str, &str); 27] = [
         "submit 1.0 set a x\nreply 1.0 none\nsubmit 2.0 cas a z y\nreply 2.0 =x\nsubmit 1.1 get a\nreply 1.1 =y",
         "no",
     ),
-    // keys on their own are right, and so they are together
+    // Each of two keys alone is right, and so are both together.
     (
         "submit 1.0 set a x\nsubmit 2.0 set b y\nreply 1.0 none\nreply 2.0 none\nsubmit 1.1 get b\nsubmit 2.1 get a\nreply 1.1 =y\nreply 2.1 =x",
         "yes",
     ),
-    // a reply to nothing, and one before its command
+    // A reply has no command, or comes before its command.
     ("reply 1.0 none", "broken"),
     ("reply 1.0 none\nsubmit 1.0 set a x", "broken"),
-    // two replies that differ, two commands with one identity, and a client that submits and hears the same again
+    // Two replies differ, or two commands have one identity. A client may submit the same again and get the same reply.
     ("submit 1.0 set a x\nreply 1.0 none\nreply 1.0 =x", "broken"),
     ("submit 1.0 set a x\nsubmit 1.0 set a y", "broken"),
     (
         "submit 1.0 set a x\nreply 1.0 none\nsubmit 1.0 set a x\nreply 1.0 none",
         "yes",
     ),
-    // `ok` without a text
+    // `ok` says nothing of the former text.
     (
         "submit 1.0 set a x\nreply 1.0 ok\nsubmit 2.0 cas a x y\nreply 2.0 ok\nsubmit 1.1 get a\nreply 1.1 =y",
         "yes",
     ),
     ("submit 1.0 cas a x y\nreply 1.0 ok", "no"),
-    // `failed` says that a command never took effect
+    // `failed` says that a command never took effect.
     (
         "submit 1.0 set a x\nreply 1.0 failed\nsubmit 2.0 get a\nreply 2.0 none",
         "yes",
@@ -96,7 +98,7 @@ const LOGS: [(&str, &str); 27] = [
         "submit 1.0 cas a x y\nreply 1.0 failed\nsubmit 2.0 get a\nreply 2.0 =y",
         "no",
     ),
-    // and does not count for the order in time
+    // `failed` does not count for the order in time.
     (
         "submit 1.0 set a x\nsubmit 2.0 get a\nreply 2.0 failed\nsubmit 3.0 get a\nreply 3.0 none\nreply 1.0 none",
         "yes",
@@ -106,7 +108,7 @@ const LOGS: [(&str, &str); 27] = [
         "broken",
     ),
     ("submit 1.0 set a x\nreply 1.0 =x\nsubmit 1.1 get a", "no"),
-    // the observations of servers and readers play no part
+    // The observations of servers and readers play no part.
     (
         "submit 1.0 set a x\nexecute 0 2.0\nlookup 1 b =y\ntold 1 0\nsettled 0\nreply 1.0 none",
         "yes",
@@ -136,12 +138,30 @@ fn log_of(alloc: Global, text: &str) -> Result<Vec<Observation>, Fail> {
     Ok(log)
 }
 
+// The word for the verdict on a log.
+fn verdict_word(alloc: Global, log: &[Observation], limit: usize) -> Result<&'static str, Fail> {
+    let explanation = explain(alloc, log, limit)?;
+    Ok(word(&explanation))
+}
+
+// A log that submits this number of commands of one key.
+fn submissions(alloc: Global, count: u32) -> Result<Vec<Observation>, Fail> {
+    let mut log = Vec::new(alloc);
+    for number in 0..count {
+        let line = format!(in alloc; "submit 1.{number} set a x")?;
+        if let Some(observation) = parse_line(alloc, line.as_str().as_bytes())? {
+            log.push(observation)?;
+        }
+    }
+    Ok(log)
+}
+
 #[test]
 fn logs_are_explained(rt: HostRuntime) -> Result<(), Fail> {
     let alloc = rt.alloc();
     for (text, want) in LOGS {
         let log = log_of(alloc, text)?;
-        assert_eq!(rt; word(&explain(alloc, log.as_slice(), 100)?), want, "{text}");
+        assert_same(&rt, &verdict_word(alloc, log.as_slice(), 100)?, &want, text);
     }
     Ok(())
 }
@@ -150,20 +170,20 @@ fn logs_are_explained(rt: HostRuntime) -> Result<(), Fail> {
 fn searches_are_given_up(rt: HostRuntime) -> Result<(), Fail> {
     let alloc = rt.alloc();
     let log = log_of(alloc, LOGS[1].0)?;
-    assert_eq!(rt; word(&explain(alloc, log.as_slice(), 0)?), "configurations");
-    assert_eq!(rt; word(&explain(alloc, log.as_slice(), 3)?), "yes");
+    assert_same(
+        &rt,
+        &verdict_word(alloc, log.as_slice(), 0)?,
+        &"configurations",
+        "0",
+    );
+    assert_same(&rt, &verdict_word(alloc, log.as_slice(), 3)?, &"yes", "3");
     for (count, want) in [(4096, "yes"), (4097, "waiting")] {
-        let mut many = Vec::new(alloc);
-        for number in 0..count {
-            let line = format!(in alloc; "submit 1.{number} set a x")?;
-            if let Some(observation) = parse_line(alloc, line.as_str().as_bytes())? {
-                many.push(observation)?;
-            }
-        }
-        assert_eq!(rt;
-            word(&explain(alloc, many.as_slice(), 100)?),
-            want,
-            "{count}"
+        let many = submissions(alloc, count)?;
+        assert_same(
+            &rt,
+            &verdict_word(alloc, many.as_slice(), 100)?,
+            &want,
+            "4096 may wait",
         );
     }
     Ok(())
@@ -173,17 +193,31 @@ fn searches_are_given_up(rt: HostRuntime) -> Result<(), Fail> {
 fn orders_are_told(rt: HostRuntime) -> Result<(), Fail> {
     let alloc = rt.alloc();
     let log = log_of(alloc, LOGS[8].0)?;
-    match explain(alloc, log.as_slice(), 100)? {
-        Explanation::Explained { order } => {
-            let clients = match order.as_slice() {
-                [first, second] => (first.client, second.client),
-                _ => (0, 0),
-            };
-            assert_eq!(rt; clients, (2, 1));
-        }
-        _ => assert!(rt; false),
-    }
+    let clients = match explain(alloc, log.as_slice(), 100)? {
+        Explanation::Explained { order } => clients_of(order.as_slice()),
+        _ => (0, 0),
+    };
+    assert_same(&rt, &clients, &(2, 1), "order");
     Ok(())
+}
+
+// The clients of an order of two commands.
+fn clients_of(order: &[CommandId]) -> (u32, u32) {
+    match order {
+        [first, second] => (first.client, second.client),
+        _ => (0, 0),
+    }
+}
+
+// The first line that leaves a log without a linearization, counted from 0.
+fn first_line_of(alloc: Global, log: &[Observation]) -> Result<Option<usize>, Fail> {
+    let Explanation::Unexplained { line } = explain(alloc, log, 100)? else {
+        return Ok(None);
+    };
+    match first_line(alloc, log, 100, line)? {
+        FirstLine::Found { line } => Ok(Some(line)),
+        _ => Ok(None),
+    }
 }
 
 #[test]
@@ -203,14 +237,8 @@ fn first_lines_are_found(rt: HostRuntime) -> Result<(), Fail> {
     ];
     for (text, want) in logs {
         let log = log_of(alloc, text)?;
-        let lines = log.as_slice();
-        match explain(alloc, lines, 100)? {
-            Explanation::Unexplained { line } => match first_line(alloc, lines, 100, line)? {
-                FirstLine::Found { line } => assert_eq!(rt; line, want, "{text}"),
-                _ => assert!(rt; false),
-            },
-            _ => assert!(rt; false),
-        }
+        let found = first_line_of(alloc, log.as_slice())?;
+        assert_same(&rt, &found, &Some(want), text);
     }
     Ok(())
 }
@@ -261,7 +289,7 @@ fn verdicts_are_printed(rt: HostRuntime) -> Result<(), Fail> {
     ];
     for (log, most, want) in logs {
         let text = printed(alloc, log, most)?;
-        assert_eq!(rt; text.as_str(), want, "{log}");
+        assert_same(&rt, &text.as_str(), &want, log);
     }
     Ok(())
 }
