@@ -5,7 +5,8 @@
 - commands lose their instances and are suggested again.
 
 A seed always gives the same schedule. The seed also draws the rates and the size of the cluster, unless they are given.
-So some schedules have many events of a kind, and others have none.
+So some schedules have many events of a kind, and others have none. Every tenth schedule is calm: it causes none of these
+situations, so that each server executes many commands.
 """
 import dataclasses
 import random
@@ -28,6 +29,9 @@ RATES = {
     "cuts": ("how many of 100 events cut a server off for a while", (0, 0, 2, 4)),
     "refusals": ("how many of 100 events are meant to be refused", (3, 10, 15)),
 }
+CALM_DIGIT = 7  # the schedule of a seed with this last digit is calm, unless rates are given
+CALM_RATES = {"suspicion": 0, "retry": 0, "loss": 0, "repeats": 0, "delay": 0, "cuts": 0, "refusals": 0}
+CALM_SERVERS = (2, 2, 2, 3, 3, 4)
 LATE = 60  # a late message is on its way for fewer events than this
 # With a great beta, a suspicion sends thousands of messages. Only the first and the last of them are delivered, and no
 # server suspects another one after so many messages.
@@ -81,6 +85,10 @@ class Drawing:
         self.dice = Dice(seed)
         drawn = {name: self.dice.pick(field.drawn) for name, field in members.FIELDS.items()}
         self.rates = {name: wish.rates.get(name, self.dice.pick(rates)) for name, (_, rates) in RATES.items()}
+        self.is_calm_from_the_start = seed % 10 == CALM_DIGIT and not wish.rates
+        if self.is_calm_from_the_start:
+            self.rates.update(CALM_RATES)
+            drawn["servers"] = self.dice.pick(CALM_SERVERS)
         self.members = {**drawn, **wish.members}
         self.count = self.members["servers"]
         self.majority = self.count // 2 + 1
@@ -90,7 +98,7 @@ class Drawing:
             self.rates = {**self.rates, "loss": 0, "delay": 0, "repeats": 3, **wish.rates}
         self.wish = wish
         self.words = data.Words(self.dice, 90 if self.count == 1 else 30)
-        self.calm_from = wish.events * self.dice.pick((50, 60, 70, 80)) // 100
+        self.calm_from = 0 if self.is_calm_from_the_start else wish.events * self.dice.pick((50, 60, 70, 80)) // 100
         self.cluster = reference.Cluster(self.members)
         self.events, self.messages = [], []
         self.identities = []  # (home, identity) of each command
@@ -101,7 +109,8 @@ class Drawing:
         self.cut = {}  # for a server, the index of the event at which its cut ends
         self.victim = None  # the server that the others suspect
         # A generator that adds an event in each step. Some schedules begin with a plot.
-        self.plot = plots.choose(self) if self.dice.chance(80) else iter(())
+        is_plotted = not self.is_calm_from_the_start and self.dice.chance(80)
+        self.plot = plots.choose(self) if is_plotted else iter(())
 
     def attempt(self, event, refusal_rate=0):
         """Adds the event if the cluster accepts it. A refused event is added in `refusal_rate` of 100 cases. Returns
@@ -126,6 +135,8 @@ class Drawing:
 
     def draw_event(self):
         """Adds one event or several events."""
+        if self.is_calm_from_the_start and len(self.on_way) <= self.count and self.submit_at_all():
+            return
         if not self.is_calm() and self.dice.chance(self.rates["repeats"]) and self.repeat():
             return
         if self.dice.chance(95) and self.go_on():
@@ -193,6 +204,10 @@ class Drawing:
         for _ in range(1 + self.dice.below(self.rates["burst"])):
             self.submit(server)
             yield
+
+    def submit_at_all(self):
+        """Submits a command at each server, so that no server skips an instance. Returns whether that added an event."""
+        return any([self.submit(server) for server in range(self.count)])
 
     def submitted_at(self, server):
         return sum(home == server for home, _ in self.identities)
@@ -302,12 +317,13 @@ class Drawing:
 
     def forget(self, rate):
         """Drops messages about instances that their receiver has learned, `rate` of 100, because they rarely show a
-        fault. A Learn to the owner of its instance stays, because the owner's command may wait."""
+        fault. A Learn to the owner of its instance stays, because the owner's command may wait. A calm schedule drops
+        all of them, so that it has room for more commands."""
         for pair in list(self.on_way):
             message = self.messages[pair[0]]
-            if ((pair[1], message.instance) in self.known and message.kind not in ("Suggest", "Skip")
-                    and not (message.kind == "Learn" and message.instance % self.count == pair[1])):
-                if self.dice.chance(rate):
+            if (pair[1], message.instance) in self.known and message.kind not in ("Suggest", "Skip"):
+                is_for_owner = message.kind == "Learn" and message.instance % self.count == pair[1]
+                if self.is_calm_from_the_start or not is_for_owner and self.dice.chance(rate):
                     del self.on_way[pair]
                     self.heard.append(pair)
 

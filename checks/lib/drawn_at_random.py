@@ -4,6 +4,7 @@ from page_user import URL, cursor, same
 from shared import fail, say
 
 MOST_MILLISECONDS = 300
+MOST_FOR_A_STEP = 150
 EVENTS = 10_000
 
 
@@ -49,8 +50,8 @@ def count_the_renderings(browser):
     same(browser, "the cursor after one undo", "120 of 120", cursor(browser))
 
 
-def time_twenty_steps(browser):
-    """The processor time of twenty random steps after 10,000 events, most of them repeated deliveries."""
+def time_long_steps(browser):
+    """The processor time of steps at 10,000 events, most of them repeated deliveries, and of twenty random steps."""
     browser.open(URL + "#n=3&at=0&e=")
     for _ in range(20):
         browser.run("document.getElementById('random20').click()")
@@ -63,3 +64,8 @@ def time_twenty_steps(browser):
         fail(f"twenty random steps at {EVENTS} events take {times[0]:.0f} ms of processor time, not less than"
              f" {MOST_MILLISECONDS}")
     say(f"twenty random steps at {EVENTS} events take {times[0]:.0f} to {times[-1]:.0f} ms of processor time")
+    # Each step goes to an event for which the page has no trace yet.
+    steps = sorted(browser.own_time("document.getElementById('back').click()") for _ in range(9))
+    if steps[0] >= MOST_FOR_A_STEP:
+        fail(f"a step at {EVENTS} events takes {steps[0]:.0f} ms of processor time, not less than {MOST_FOR_A_STEP}")
+    say(f"a step at {EVENTS} events takes {steps[0]:.0f} to {steps[-1]:.0f} ms of processor time")

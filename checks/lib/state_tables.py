@@ -8,9 +8,51 @@ MAP = ["a =y", "b ="]
 
 
 def look(browser):
+    compare_with_reports(browser)
+    keep_equal_parts(browser)
     look_at_the_blocking_instance(browser)
     look_at_a_map(browser)
     look_at_many_replies(browser)
+
+
+def compare_with_reports(browser):
+    """The histories, the replies and the counts come from the trace. They must be those of the report."""
+    browser.open(URL + "#n=3&at=0&e=")
+    for _ in range(8):
+        browser.click("#random20")
+    browser.click("#tab-texts")
+    replied = 0
+    for place in (*range(0, 161, 23), 160):
+        act(browser, f"before {place}")
+        browser.run("document.querySelectorAll(`#dock [data-do^='whole history'], #dock [data-do='whole replies']`)"
+                    ".forEach(button => button.click())")
+        lines = [line.split(" ") for line in browser.text("#report").splitlines()]
+        [[_, _, _, messages, _, events]] = [line for line in lines if line[0] == "servers"]
+        histories = [" ".join(line[7:]).replace("-", "") for line in lines if line[0] == "server"]
+        replies = [f"{line[1]} → {' '.join(line[2:])}" for line in lines if line[0] == "reply"]
+        replied += sum("pending" not in reply for reply in replies)
+        shown = browser.run("""const texts = (part, selector) => [...part.querySelectorAll(selector)].map(one => one.textContent);
+          const dock = document.getElementById('dock'), histories = [...dock.querySelectorAll('.history')];
+          return [histories.map(part => texts(part, 'li b').join(' ')), texts(dock, '.summary p').at(-1),
+            [...dock.querySelectorAll('.replies li')].map(one => texts(one, 'b, i').join(' '))]""")
+        counts = ", ".join(f"{number} {word}{'' if number == '1' else 's'}"
+                           for number, word in ((events, "event"), (messages, "message")))
+        same(browser, f"the histories, the counts and the replies after {place} events", [histories, counts, replies],
+             shown)
+    same(browser, f"whether some commands have replies, {replied} in all", True, replied > 10)
+    browser.click("#tab-lesson")
+
+
+def keep_equal_parts(browser):
+    """A step keeps the parts that it does not change. To lay out all of them anew would take most of its time."""
+    browser.choose("#example", "one_command")
+    act(browser, "before 2")
+    browser.run("window.parts = [...document.querySelectorAll('#dock h3, #dock .facts, #dock .acts > button, #heads b')]"
+                ".filter(part => !part.matches('[data-do^=again]'))")
+    browser.click("#next")
+    browser.click("#back")
+    gone = browser.run("return window.parts.filter(part => !part.isConnected).map(part => part.outerHTML)")
+    same(browser, "the parts that are not in the page after two steps", [], gone)
 
 
 def link(servers, events):
