@@ -129,7 +129,8 @@ class Chromium(Browser):
 
     def own_time(self, script, until=None):
         """The processor time in milliseconds that the thread of the page needs for a script, styles and layout. With
-        another script `until`, the time ends when that script returns a true value."""
+        another script `until`, the time ends when that script returns a true value. The script runs as a listener of
+        an event, because Chromium does not count scripts of its driver."""
         parts = ("ScriptDuration", "LayoutDuration", "RecalcStyleDuration")
 
         def used():
@@ -138,7 +139,8 @@ class Chromium(Browser):
 
         self.driver.execute_cdp_cmd("Performance.enable", {"timeDomain": "threadTicks"})
         before = used()
-        self.run(script + "; document.body.offsetHeight")
+        self.run(f"const target = new EventTarget(); target.addEventListener('begin', () => {{ {script}; }});"
+                 "target.dispatchEvent(new Event('begin')); document.body.offsetHeight")
         if until:
             self.wait(until, f"the end of {script}")
         return 1000 * (used() - before)

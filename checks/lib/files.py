@@ -5,9 +5,12 @@ import os
 from page_user import URL, cursor, same, schedule
 from shared import TOP, fail, say
 
-# In milliseconds of processor time. Without the worker, or if the field contained the log, the page would be blocked
-# for a second.
-MOST_MILLISECONDS = 400
+# In milliseconds of processor time, for the opening of a long log up to its timeline. On a slow and loaded machine, we
+# measured 61 to 128. If the page judged the log itself, we measured 196 to 307. If the field contained the log, we
+# measured 1,990.
+MOST_MILLISECONDS = 150
+# Other work of the machine can only lengthen a measurement, so the shortest one of these counts.
+TIMES = 3
 COMMANDS = 20_000
 
 
@@ -71,17 +74,27 @@ def judge_a_long_log(browser):
     browser.click("#tab-judge")
     log = long_log()
     browser.run(f"window.long = {json.dumps(log)}")
-    browser.run("window.judged = 0; const real = core.call; core.call = (args, input) => {"
-                "window.judged += args[0] === 'judge'; return real.call(core, args, input); }")
     wanted = f"violation {3 * COMMANDS + 1} SameOrder server 1 place 0 expected 1.0 found 1.1"
     verdict = f"return document.getElementById('timeline-verdict').textContent === '{wanted}'"
-    time = browser.own_time("openLog('long.log', window.long)", verdict)
-    if time >= MOST_MILLISECONDS:
-        fail(f"the page works for {time:.0f} ms at a log of {len(log)} letters, not less than {MOST_MILLISECONDS}")
+    judged = min(browser.own_time("core.call(['judge'], window.long)") for _ in range(TIMES))
+    browser.run("window.judged = 0; const real = core.call; core.call = (args, input) => {"
+                "window.judged += args[0] === 'judge' && input === window.long; return real.call(core, args, input); }")
+    opened, begun = [], []
+    for _ in range(TIMES):
+        browser.choose("#logs", "kept")
+        opened.append(browser.own_time("openLog('long.log', window.long)", verdict))
+        begun.append(browser.own_time("judgeLog(core)"))
+        browser.wait(verdict, "the verdict on the long log")
+    if min(opened) >= MOST_MILLISECONDS:
+        fail(f"the page works for {min(opened):.0f} ms at a log of {len(log)} letters, not less than {MOST_MILLISECONDS}")
+    if min(begun) >= judged / 2:
+        fail(f"the page works for {min(begun):.0f} ms until a worker judges a long log, and the judgement itself takes"
+             f" {judged:.0f} ms. The page may take at most half of it")
     same(browser, "the verdict on the long log", wanted, browser.text("#judgement"))
     same(browser, "the log in the field", "", browser.run("return document.getElementById('log').value"))
     same(browser, "the logs that the page judged without the worker", 0, browser.run("return window.judged"))
     browser.choose("#logs", "kept")
     browser.choose("#logs", "own")
     browser.wait(verdict, "the verdict on the long log after another one")
-    say(f"a log of {len(log)} letters takes {time:.0f} ms of processor time of the page")
+    say(f"a log of {len(log)} letters takes {min(opened):.0f} to {max(opened):.0f} ms of processor time of the page, and"
+        f" {min(begun):.0f} to {max(begun):.0f} of them until the worker judges it. The judgement takes {judged:.0f} ms")

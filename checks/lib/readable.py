@@ -1,7 +1,9 @@
 """Tries whether the page can be read: the contrast of later events, the size of buttons, the words for a screen reader,
 and the parts that stay in sight in narrow windows. The colours are those that the browser computes."""
 import contextlib
+import json
 
+import files
 from page_user import URL, act, same
 
 # The least contrast that WCAG 2 asks for, and the least size of a target in pixels.
@@ -71,6 +73,19 @@ def look_at_a_laptop(browser):
     head, wide, room = browser.run("""const stage = document.getElementById('stage');
       return [document.querySelector('header').offsetHeight, stage.scrollWidth, stage.clientWidth]""")
     same(browser, f"whether the header takes one line, {head} px", True, head < 60)
+    same(browser, f"whether three servers fit, {wide} px in {room} px", True, wide <= room)
+    look_at_the_header_of_a_long_schedule(browser)
+
+
+def look_at_the_header_of_a_long_schedule(browser):
+    """The numbers of the events have five digits, and the strip is below the line with the buttons."""
+    events = [f"execute {place % 3}" for place in range(12345)]
+    files.drop(browser, "long.json", json.dumps({"version": 1, "servers": 3, "events": events}))
+    tops, wide, room = browser.run("""const stage = document.getElementById('stage');
+      const parts = [...document.querySelectorAll('header > :not(#view, #told, #common:empty)')];
+      return [parts.map(part => part.getBoundingClientRect()).map(({ top, height }) => Math.round((top + height / 2) / 8)),
+        stage.scrollWidth, stage.clientWidth]""")
+    same(browser, "the places of the parts of a long schedule's header, in lines of 8 px", 1, len(set(tops)))
     same(browser, f"whether three servers fit, {wide} px in {room} px", True, wide <= room)
 
 

@@ -117,7 +117,7 @@ function fatesOf(trace, message, server) {
 // The events that a click on a message can make happen after the cursor, as pairs of an event and a text.
 function choicesFor(number) {
   const due = dueAt(number), { trace } = page.now, receivers = receiversOf(trace, trace.messages[number]);
-  const heard = receivers.filter(server => trace.heardBy(server).some(message => message.number === number));
+  const heard = receivers.filter(server => [...trace.heardBy(server)].some(message => message.number === number));
   const button = (event, text) => el('button', { 'data-do': event }, text);
   return [
     ...due.flatMap(server => [button(`deliver ${number} ${server}`, `deliver to ${server}`),

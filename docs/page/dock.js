@@ -17,17 +17,17 @@ const written = value => value ?? '–';
 
 // The box next to the servers: the result of the last event, some counts, and the replies.
 function summary(now) {
-  const { cursor, schedule, report, trace } = now, event = trace.events.at(-1);
+  const { cursor, schedule, trace } = now, event = trace.events.at(-1);
   const said = cursor === 0 ? 'nothing has happened yet' : `after event ${cursor - 1}`;
   const box = el('div', { class: 'summary' }, el('h2', {}, said));
   if (event?.refusal) {
     box.append(el('p', { class: 'bad' }, `refused: ${event.refusal}, because ${REFUSALS[event.refusal]}`));
   }
-  const counts = [count(report.accepted, 'event'), count(report.messages, 'message')];
+  const counts = [count(trace.accepted, 'event'), count(trace.messages.length, 'message')];
   const common = saidOf(schedule).filter(([name]) => COMMON.includes(name)).map(([name, value]) => `${name} ${value}`);
   box.append(el('p', {}, [...counts, ...common].join(', ')));
-  if (report.replies.length > 0) {
-    box.append(el('h3', {}, 'replies'), replies(now));
+  if (trace.commands.size > 0) {
+    box.append(el('h3', {}, 'replies'), replies(trace));
   }
   if (cursor > 0) {
     box.append(el('button', { 'data-do': 'out', title: 'Delete' }, `take out event ${cursor - 1}`));
@@ -40,10 +40,10 @@ function summary(now) {
   return box;
 }
 
-function replies({ report, trace }) {
-  const hidden = dock.whole.has('replies') ? 0 : Math.max(0, report.replies.length - REPLIES);
+function replies(trace) {
+  const hidden = dock.whole.has('replies') ? 0 : Math.max(0, trace.commands.size - REPLIES);
   const button = hidden > 0 ? el('li', {}, wholeButton('replies', `show ${hidden} older ..`)) : null;
-  return el('ul', { class: 'replies' }, button, ...report.replies.slice(hidden).map(([id, reply]) =>
+  return el('ul', { class: 'replies' }, button, ...trace.repliesFrom(hidden).map(([id, reply]) =>
     el('li', { class: reply === 'pending' ? 'soft' : null }, el('b', {}, id), ` ${trace.commands.get(id)} `,
       el('i', {}, `→ ${reply}`))));
 }
@@ -63,15 +63,14 @@ function card(now, server) {
 // ---- messages on their way
 
 function inbox(now, server) {
-  const { trace } = now, isDue = ({ to }) => to === server;
-  const due = trace.unheard.filter(isDue).map(({ number }) => trace.messages[number]);
+  const { trace } = now, due = trace.due[server];
   const hidden = dock.whole.has(`inbox${server}`) ? 0 : Math.max(0, due.length - SHOWN);
   const list = el('ul', { class: 'inbox', 'aria-label': `messages on their way to server ${server}` });
   if (due.length === 0) list.append(el('li', { class: 'soft' }, 'no message on its way'));
   if (hidden > 0) list.append(el('li', {}, wholeButton(`inbox${server}`, `show ${hidden} older ..`)));
-  list.append(...due.slice(hidden).map(message => messageRow(now, message, server)));
+  list.append(...due.slice(hidden).map(number => messageRow(now, trace.messages[number], server)));
   if (dock.again.has(server)) {
-    list.append(...trace.heardBy(server).slice(-SHOWN).map(message => messageRow(now, message, server, true)));
+    list.append(...[...trace.heardBy(server)].slice(-SHOWN).map(message => messageRow(now, message, server, true)));
   }
   return list;
 }
@@ -98,7 +97,7 @@ function actions({ schedule, trace }, server) {
   const others = Array.from({ length: schedule.servers }, (_, other) => other).filter(other => other !== server);
   const button = (event, text, label) =>
     el('button', { 'data-do': event, 'data-asked': event, 'aria-label': label }, text);
-  const again = trace.heardBy(server).length === 0 ? null : againButton(server);
+  const again = trace.hasHeard(server) ? againButton(server) : null;
   return el('div', { class: 'acts' },
     dock.ask === server ? askForm(schedule, server) : askButton(server),
     button(`execute ${server}`, 'execute'), button(`retry ${server}`, 'retry'), again,
@@ -110,7 +109,7 @@ function askForm(schedule, server) {
   const { command } = DATA.operations;
   const said = `command for server ${server}: ${command}`;
   return el('form', { class: 'ask', 'data-server': server },
-    el('input', { value: commandFor(schedule, server), 'aria-label': said, spellcheck: 'false' }),
+    el('input', { value: commandFor(identitiesIn(schedule), server), 'aria-label': said, spellcheck: 'false' }),
     el('button', {}, 'submit'),
     el('button', { type: 'button', 'data-do': 'ask -1', 'aria-label': 'cancel' }, '×'),
     el('small', {}, command));
@@ -126,10 +125,14 @@ function againButton(server) {
   return el('button', { 'data-do': `again ${server}`, 'aria-pressed': isPressed, title }, 'again');
 }
 
+// The identities of the commands that a schedule submits.
+function identitiesIn({ events }) {
+  return new Set(events.filter(event => event.startsWith('submit')).map(event => event.split(' ')[2]));
+}
+
 // The next command of the client of this server. Its number is the first one that the client has not used.
-function commandFor({ events }, server) {
-  const client = server + 1, submissions = events.filter(event => event.startsWith('submit'));
-  const used = new Set(submissions.map(event => event.split(' ')[2]));
+function commandFor(used, server) {
+  const client = server + 1;
   let number = 0;
   while (used.has(`${client}.${number}`)) number += 1;
   return `${client}.${number} set a ${['x', 'y', 'z'][used.size] ?? `v${used.size}`}`;
@@ -140,7 +143,7 @@ function commandFor({ events }, server) {
 function fillDock(now) {
   const kept = focusedPlace();
   const cards = Array.from({ length: now.schedule.servers }, (_, server) => card(now, server));
-  $('dock').replaceChildren(summary(now), ...cards);
+  becomeLike($('dock'), el('div', {}, summary(now), ...cards));
   if (kept) focusAgain(kept);
   if (dock.ask !== null) $('dock').querySelector('.ask input')?.select();
 }

@@ -38,7 +38,7 @@ class Drawing {
   // Takes over a schedule and its trace. The next events are drawn from them.
   look(schedule, trace) {
     const { servers } = schedule;
-    Object.assign(this, { schedule, trace, servers, isFresh: true });
+    Object.assign(this, { prefix: schedule, added: [], used: null, trace, servers, isFresh: true });
     this.all = Array.from({ length: servers }, (_, server) => server);
     this.majority = Math.floor(servers / 2) + 1;
     this.onWay = trace.unheard.filter(pair => this.isUseful(pair));
@@ -48,7 +48,10 @@ class Drawing {
     for (; this.sent < trace.messages.length; this.sent += 1) this.delay(trace.messages[this.sent]);
   }
 
-  get time() { return this.schedule.events.length; }
+  get time() { return this.prefix.events.length + this.added.length; }
+
+  // The schedule with the drawn events.
+  get schedule() { return { ...this.prefix, events: [...this.prefix.events, ...this.added] }; }
 
   delay({ number, to }) {
     for (const server of to === null ? this.all : [to]) {
@@ -56,12 +59,11 @@ class Drawing {
     }
   }
 
-  // The next event. Until the next `look`, messages of the drawn events are not known.
+  // Draws the next event. Until the next `look`, messages of the drawn events are not known.
   draw() {
     const event = (this.chance(RATES.repeats) && this.repeat()) || (this.chance(92) && this.goOn()) || this.disturb()
       || this.settle() || this.submit(this.dice(this.servers));
-    this.schedule = withEvent(this.schedule, event);
-    return event;
+    this.added.push(event);
   }
 
   goOn() {
@@ -85,7 +87,11 @@ class Drawing {
 
   // ---- commands
 
-  submit(server) { return `submit ${server} ${commandFor(this.schedule, server)}`; }
+  submit(server) {
+    this.used ??= identitiesIn(this.prefix);
+    for (const id of identitiesIn({ events: this.added })) this.used.add(id);
+    return `submit ${server} ${commandFor(this.used, server)}`;
+  }
 
   * burst(server = this.dice(this.servers)) {
     for (let left = 1 + this.dice(RATES.burst); left > 0; left -= 1) yield this.submit(server);
@@ -163,9 +169,9 @@ class Drawing {
 
   // Delivers a useful message, usually the oldest one.
   deliver() {
-    const pairs = this.onWay.filter(pair => this.reaches(pair));
-    if (pairs.length === 0) return null;
-    return this.handOver(this.chance(30) ? this.pick(pairs) : pairs[0]);
+    const isNear = pair => this.reaches(pair), oldest = this.onWay.find(isNear);
+    if (!oldest) return null;
+    return this.handOver(this.chance(30) ? this.pick(this.onWay.filter(isNear)) : oldest);
   }
 
   // Whether the message is neither late nor between servers of which one is cut off.

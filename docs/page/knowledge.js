@@ -63,8 +63,8 @@ function attemptOf({ tried, promises, proposal, acceptances }) {
 
 // ---- the commands that a server executed
 
-function historyOf({ report, trace }, server) {
-  const done = report.histories[server], list = `history${server}`;
+function historyOf({ trace }, server) {
+  const done = trace.histories[server], list = `history${server}`;
   const hidden = dock.whole.has(list) ? 0 : Math.max(0, done.length - COMMANDS);
   const rows = done.slice(hidden).map(id => el('li', {}, el('b', {}, id), ` ${trace.commands.get(id)}`));
   return el('div', { class: 'history' }, el('h3', {}, 'history'),
@@ -90,7 +90,7 @@ function mapAfter(commands, coreCall) {
     [`submit 0 ${id} ${operation}`, `deliver ${3 * index} 0`, `deliver ${3 * index + 1} 0`, 'execute 0']);
   const question = asScenario({ ...emptyOf({ servers: 1 }), events: texts });
   if (!maps.has(question)) {
-    const replies = new Map(readReport(coreCall(['replay'], question).printed).replies);
+    const replies = repliesIn(coreCall(['replay'], question).printed);
     const found = asked.map(([id], index) => [keys[index], replies.get(id)]);
     maps.set(question, found.filter(([, reply]) => reply !== 'none' && reply !== undefined));
     if (maps.size > MAPS_KEPT) maps.delete(maps.keys().next().value);
@@ -98,8 +98,8 @@ function mapAfter(commands, coreCall) {
   return maps.get(question);
 }
 
-function mapOf({ report, trace }, server) {
-  const commands = report.histories[server].map(id => [id, trace.commands.get(id)]);
+function mapOf({ trace }, server) {
+  const commands = trace.histories[server].map(id => [id, trace.commands.get(id)]);
   const rows = commands.length === 0 ? [] : mapAfter(commands, (args, input) => core.call(args, input));
   return el('div', { class: 'map' }, el('h3', {}, 'map'), rows.length === 0 ? el('code', {}, '–')
     : el('ul', {}, ...rows.map(([key, reply]) => el('li', {}, el('b', {}, key), ` ${reply}`))));

@@ -34,6 +34,10 @@ function later(name, wait, action) {
 // A click needs the trace of the same schedule several times, so the latest traces are kept.
 const TRACES_KEPT = 4;
 const traces = new Map();
+// The traces of a long schedule often begin with the same lines, so traces of some beginnings are kept too. There are
+// at most this many in one trace, and at least this many letters between two of them.
+const BEGINNINGS = 16, LEAST_LETTERS = 50_000;
+const beginnings = [];
 
 function traceOf(schedule) {
   const scenario = asScenario(schedule);
@@ -43,16 +47,32 @@ function traceOf(schedule) {
     say(wordsOf(answer.said));
     return null;
   }
-  const text = answer.printed, made = { text, trace: new Trace(text, formerTrace(text)) };
+  const text = answer.printed, made = { text, trace: readTrace(text) };
   traces.set(scenario, made);
   if (traces.size > TRACES_KEPT) traces.delete(traces.keys().next().value);
   return made;
 }
 
+// Reads a trace from the end of a former one on, and keeps traces of the beginnings in between.
+function readTrace(text) {
+  const size = Math.max(LEAST_LETTERS, text.length / BEGINNINGS);
+  let former = formerTrace(text), read = former?.lines.length ?? 0;
+  while (lengthOfEvents(text) - read > size) {
+    const end = text.lastIndexOf('\nevent ', read + size) + 1;
+    if (end <= read) break;
+    former = new Trace(text.slice(0, end), former);
+    read = end;
+    beginnings.push(former);
+    if (beginnings.length > 2 * BEGINNINGS) beginnings.shift();
+  }
+  return new Trace(text, former);
+}
+
 // The longest trace with which this text begins.
 function formerTrace(text) {
-  const parts = [...traces.values()].map(({ trace }) => trace).filter(({ lines }) => text.startsWith(lines));
-  return parts.sort((one, other) => other.lines.length - one.lines.length)[0];
+  const longestFirst = [...[...traces.values()].map(({ trace }) => trace), ...beginnings]
+    .sort((one, other) => other.lines.length - one.lines.length);
+  return longestFirst.find(({ lines }) => beginsWith(text, lines));
 }
 
 function become(schedule, cursor, isKept = true) {
@@ -159,7 +179,7 @@ function addAtRandom(number) {
     prefix = drawing.schedule;
     made = traceOf(prefix);
   }
-  if (!made || !insert(prefix.events.slice(first))) return;
+  if (!made || !change(prefix, first, 'Inserted at the cursor.')) return;
   page.drawing.after = asScenario(prefix);
   const done = prefix.events.length - first;
   if (done > 1) $('told').prepend(`${count(done, 'random event')} happened. The last one is `);
@@ -184,8 +204,9 @@ function refusalOf(event) {
   return now.refusals[event];
 }
 
-// In events. After more events, the page first shows the step, and then asks which buttons are grey.
-const ASKED_AT_ONCE = 200;
+// In events. After more events, the page first shows the step, and asks which buttons are grey if no other step follows
+// within some milliseconds.
+const ASKED_AT_ONCE = 200, ASKED_AFTER = 80;
 
 // Finds out which buttons are grey. It works for 12 ms at a time, so that the page stays responsive.
 function greyButtons() {
@@ -206,11 +227,10 @@ function show() {
   const made = cursor === schedule.events.length ? whole : traceOf(prefix);
   if (!made) return;
   const { text, trace } = made;
-  const report = core.call(['replay'], asScenario(prefix)).printed;
-  page.now = { schedule, prefix, cursor, text, trace, reportText: report, report: readReport(report), refusals: {} };
+  page.now = { schedule, prefix, cursor, text, trace, refusals: {} };
   fillHeads(schedule.servers);
   fillDock(page.now);
-  if (cursor > ASKED_AT_ONCE) later('grey', 0, greyButtons); else greyButtons();
+  if (cursor > ASKED_AT_ONCE) later('grey', ASKED_AFTER, greyButtons); else greyButtons();
   drawPicture(core, page);
   markCursor(cursor);
   light(null);
@@ -253,7 +273,7 @@ function showTab() {
   }
   if (tab === 'compare') showComparison();
   if (tab === 'texts') {
-    $('report').textContent = now.reportText;
+    $('report').textContent = core.call(['replay'], asScenario(now.prefix)).printed;
     $('trace').textContent = now.text;
     const lines = now.text.split('\n'), last = lines.findLastIndex(line => line.startsWith('event '));
     $('trace').scrollTop = $('trace').scrollHeight * Math.max(0, last - 3) / lines.length;

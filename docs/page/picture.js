@@ -35,11 +35,11 @@ function el(tag, attributes = {}, ...children) {
   return made;
 }
 
-// The first and the last index of `size` items around a place in a list.
+// The first and the last index of `size` items around a place in a list. Near an end of a longer list, there are fewer.
 function partFor(place, length, size) {
   if (length <= size) return [0, length - 1];
-  const first = Math.max(0, Math.min(place - Math.ceil(size / 2), length - size));
-  return [first, first + size - 1];
+  const first = place - Math.ceil(size / 2);
+  return [Math.max(0, first), Math.min(length, first + size) - 1];
 }
 
 // Whether the drawn part contains the shown events around a cursor.
@@ -101,9 +101,9 @@ const sameList = (one, other) =>
   one === other || (one.length === other.length && one.every((event, at) => event === other[at]));
 
 // Removes everything except the lanes from a picture, and hides the events that are not in `list`. Stores the positions
-// of the rows.
+// of the rows. The key in the help contains the styles of all pictures.
 function cutDrawing(svg, schedule, list) {
-  for (const part of svg.querySelectorAll('.foot, .key, .place, .what, :scope > title')) part.remove();
+  for (const part of svg.querySelectorAll('.foot, .key, .place, .what, style, :scope > title')) part.remove();
   const rows = fold(svg, rowsOfPicture(svg), list), bottom = bottomOf(svg);
   layArrowsBelow(svg);
   backLabels(svg);
@@ -180,7 +180,7 @@ function fillHeads(servers) {
     const owned = servers === 1 ? 'owns all' : `owns ${server}, ${server + servers}, ..`;
     return el('div', { class: `lane-head owner${server}` }, el('span', {}, el('b', {}, `server ${server}`), owned));
   });
-  $('heads').replaceChildren(el('span', { class: 'corner' }, 'event'), ...heads);
+  becomeLike($('heads'), el('div', {}, el('span', { class: 'corner' }, 'event'), ...heads));
 }
 
 // Makes everything pale that has not happened yet, and marks the last event.

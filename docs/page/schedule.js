@@ -49,7 +49,10 @@ function readScenario(text) {
   return scheduleOf(JSON.parse(text));
 }
 
-const prefixOf = (schedule, length) => ({ ...schedule, events: schedule.events.slice(0, length) });
+// The first events of a schedule. A whole schedule keeps the text that `asScenario` made for it.
+function prefixOf(schedule, length) {
+  return length >= schedule.events.length ? schedule : { ...schedule, events: schedule.events.slice(0, length) };
+}
 const withEvent = (schedule, event) => ({ ...schedule, events: [...schedule.events, event] });
 
 // The text of `withEvent(schedule, event)`. It begins with the text of the schedule, so a long one is not written again.

@@ -6,38 +6,46 @@ const NO_SLOT = { promised: 0, vote: null, tried: 0, promises: null, acceptances
   at: -1, fields: [] };
 
 // The length of the lines that tell of events. The lines after them are about the state after the last event.
-const lengthOfEvents = text => text.indexOf('\nserver 0 front ') + 1;
+const lengthOfEvents = text => text.lastIndexOf('\nserver 0 front ') + 1;
+
+// Whether a text begins with another one. For long texts, this is faster than `startsWith`.
+const beginsWith = (text, start) => text.slice(0, start.length) === start;
 
 class Trace {
   // `former` is the trace of fewer events, or undefined. If the text goes on with its lines, only new ones are read.
   constructor(text, former) {
-    const start = former && text.startsWith(former.lines) ? former.lines.length : 0;
+    const start = former && beginsWith(text, former.lines) ? former.lines.length : 0;
     if (start > 0) this.copy(former);
     else this.begin();
-    this.lines = text.slice(0, lengthOfEvents(text));
+    this.lines = text.slice(0, lengthOfEvents(text) || text.length);
     for (const line of text.slice(start).split('\n')) this.read(line, line.split(' '));
   }
 
-  copy({ servers, events, messages, lost, slots, proposals, commands }) {
+  copy({ servers, events, accepted, messages, lost, slots, proposals, commands, histories, replies }) {
     this.begin();
-    Object.assign(this, { servers, events: [...events], messages: [...messages], lost: new Set(lost) });
+    Object.assign(this, { servers, events: [...events], accepted, messages: [...messages], lost: new Set(lost) });
     Object.assign(this, { slots: slots.map(map => new Map(map)), proposals: new Map(proposals) });
-    this.commands = new Map(commands);
+    Object.assign(this, { commands: new Map(commands), histories: histories.map(ids => [...ids]) });
+    this.replies = new Map(replies);
   }
 
   begin() {
     this.servers = 0;
     this.events = [];   // { text, firstMessage, refusal, lines }
+    this.accepted = 0;  // the number of events that were not refused
     // { number, kind, from, to, instance, label, value, says }; `to` is a server, or null for all servers
     this.messages = [];
     this.closing = [];  // { front, executed, next, waiting } for each server
-    this.unheard = [];  // { number, to }
+    this.unheard = [];  // { number, to }, in the order of the messages
+    this.due = [];      // for each server, the numbers of its messages in `unheard`
     this.lost = new Set(); // texts `NUMBER SERVER`
     // For each server, a map from an instance to the server's knowledge of it. Event `at` changed `fields` last.
     this.slots = [];
     this.commands = new Map(); // from the identity of a command to its operation
     this.newest = null; // the identity that the last event added to `commands`, or null
     this.proposals = new Map();
+    this.histories = []; // for each server, the identities of the commands that it executed
+    this.replies = new Map(); // from the identity of a command to its reply
   }
 
   read(line, words) {
@@ -47,12 +55,23 @@ class Trace {
     if (isOfEvent) this.events.at(-1)?.lines.push(line);
   }
 
-  // The messages that a server has heard. It may hear them again.
-  heardBy(server) {
-    const due = new Set(this.unheard.filter(({ to }) => to === server).map(({ number }) => number));
-    const isHeard = ({ number, to }) =>
-      (to ?? server) === server && !due.has(number) && !this.lost.has(`${number} ${server}`);
-    return this.messages.filter(isHeard);
+  // The messages that a server has heard, in the order of sending. It may hear them again.
+  * heardBy(server) {
+    const due = this.due[server];
+    let place = 0;
+    for (const message of this.messages) {
+      const { number, to } = message;
+      if (due[place] === number) place += 1;
+      else if ((to ?? server) === server && !this.lost.has(`${number} ${server}`)) yield message;
+    }
+  }
+
+  // Whether a server has heard a message.
+  hasHeard(server) { return !this.heardBy(server).next().done; }
+
+  // The replies to the submitted commands from an index on, as pairs of an identity and a text.
+  repliesFrom(index) {
+    return [...this.commands.keys()].slice(index).map(id => [id, this.replies.get(id) ?? 'pending']);
   }
 
   change(server, instance, changes) {
@@ -72,10 +91,12 @@ const READERS = {
   servers(trace, words) {
     trace.servers = +words[1];
     trace.slots = Array.from({ length: trace.servers }, () => new Map());
+    trace.histories = Array.from({ length: trace.servers }, () => []);
   },
   event(trace, words) {
     const text = words.slice(2).join(' ');
     trace.events.push({ text, firstMessage: trace.messages.length, refusal: null, lines: [] });
+    trace.accepted += 1;
     trace.newest = words[2] === 'submit' && !trace.commands.has(words[4]) ? words[4] : null;
     if (trace.newest) trace.commands.set(trace.newest, words.slice(5).join(' '));
     if (words[2] === 'lose') trace.lost.add(`${words[3]} ${words[4]}`);
@@ -83,6 +104,7 @@ const READERS = {
   refused(trace, words) {
     const event = trace.events.at(-1);
     event.refusal = words[1];
+    trace.accepted -= 1;
     if (trace.newest) trace.commands.delete(trace.newest);
     if (words[1] !== 'LostMessage') trace.lost.delete(event.text.slice('lose '.length));
   },
@@ -102,12 +124,21 @@ const READERS = {
   learned(trace, words) {
     trace.change(+words[1], +words[3], { learned: words[5] });
   },
+  executed(trace, words) {
+    if (words[5] !== 'no-op') trace.histories[+words[1]].push(words[5]);
+  },
+  reply(trace, words) {
+    trace.replies.set(words[1], words.slice(2).join(' '));
+  },
   server(trace, words) {
     const [front, executed, next] = [3, 5, 7].map(place => +words[place]);
     trace.closing.push({ front, executed, next, waiting: words.slice(9).filter(word => word !== '-') });
+    trace.due.push([]);
   },
   unheard(trace, words) {
-    trace.unheard.push({ number: +words[1], to: +words[4] });
+    const [number, to] = [+words[1], +words[4]];
+    trace.unheard.push({ number, to });
+    trace.due[to].push(number);
   },
 };
 
@@ -153,17 +184,10 @@ function labelOf(words) {
   }
 }
 
-// Reads a report: the histories, the replies, the refusals and the counts.
-function readReport(text) {
-  const report = { histories: [], replies: [], messages: 0, accepted: 0, refused: [] };
-  for (const line of text.split('\n')) {
-    const words = line.split(' ');
-    if (words[0] === 'servers') [report.messages, report.accepted] = [+words[3], +words[5]];
-    else if (words[0] === 'server') report.histories.push(words.slice(7).filter(word => word !== '-'));
-    else if (words[0] === 'reply') report.replies.push([words[1], words.slice(2).join(' ')]);
-    else if (words[0] === 'refused') report.refused.push([+words[1], words[2]]);
-  }
-  return report;
+// The replies in a report, from the identities of commands to texts.
+function repliesIn(report) {
+  const lines = report.split('\n').filter(line => line.startsWith('reply '));
+  return new Map(lines.map(line => line.split(' ')).map(([, id, ...words]) => [id, words.join(' ')]));
 }
 
 // The refusal of an event in a report, or null if the event was accepted. No later event may be refused. A report
