@@ -1,15 +1,13 @@
 //! Tests that step clusters. They are one program, so that the libraries under test are read and compiled only once.
 //! The first argument says what is tested:
 //!
-//! - Without an argument, the program tests the laws on schedules (see `laws`).
+//! - Without an argument, the program steps a cluster through a schedule, and delivers all its messages again (see
+//!   `laws`).
 //! - With `board`, it tests a board whose calls run out of memory (see `memory`).
 //! - With `parts`, it tests single servers and executors whose calls run out of memory (see `memory`).
-//! - With `both`, the first line of standard input is for the laws, and the rest is for the board.
+//! - With `both`, the first line of standard input is a schedule for a cluster, and the rest is for the board.
 //!
-//! `walk` steps a cluster through events, and `observed` checks the laws on the results of the cluster's calls after each
-//! event. `again` builds a cluster again from the journal of another cluster. `same` compares the results of the calls of
-//! two clusters. These checks are tested, not proved. They take no facts from the contracts, although the contracts
-//! already state the laws.
+//! `same` compares the results of the calls of two clusters.
 //!
 //! The exit status is one of these:
 //!
@@ -19,19 +17,11 @@
 //! - 9 if something is wrong. Standard error then names it.
 #![tactic(auto)]
 
-mod again;
-mod counts;
-mod dice;
-mod event_table;
-mod given;
 mod laws;
-mod mail;
 mod memory;
 mod observed;
-mod operations;
 mod parts;
 mod same;
-mod walk;
 mod watched;
 mod workers;
 

@@ -5,8 +5,8 @@ use mencius_cluster::Cluster;
 use std::alloc::{AllocError, Global};
 use std::fmt::Debug;
 
-// Returns the name of the first call about a server whose results differ. Only instances below `end` are compared.
-fn of_server(first: &Cluster, second: &Cluster, server: u8, end: u32) -> Option<&'static str> {
+// Returns the name of the first call about a server whose results differ.
+fn of_server(first: &Cluster, second: &Cluster, server: u8) -> Option<&'static str> {
     if first.front(server) != second.front(server) {
         return Some("front");
     }
@@ -16,7 +16,7 @@ fn of_server(first: &Cluster, second: &Cluster, server: u8, end: u32) -> Option<
     if first.history(server) != second.history(server) {
         return Some("history");
     }
-    for inst in 0..end {
+    for inst in 0..INSTANCES {
         if first.learned(server, inst) != second.learned(server, inst) {
             return Some("learned");
         }
@@ -27,7 +27,7 @@ fn of_server(first: &Cluster, second: &Cluster, server: u8, end: u32) -> Option<
     None
 }
 
-fn of_servers(first: &Cluster, second: &Cluster, end: u32) -> Option<&'static str> {
+fn of_servers(first: &Cluster, second: &Cluster) -> Option<&'static str> {
     if first.servers() != second.servers() {
         return Some("servers");
     }
@@ -35,7 +35,7 @@ fn of_servers(first: &Cluster, second: &Cluster, end: u32) -> Option<&'static st
         return Some("longest");
     }
     for server in 0..first.servers() {
-        let found = of_server(first, second, server, end);
+        let found = of_server(first, second, server);
         if found.is_some() {
             return found;
         }
@@ -114,16 +114,6 @@ pub fn first_difference(
     first: &Cluster,
     second: &Cluster,
 ) -> Result<Option<&'static str>, AllocError> {
-    first_difference_below(alloc, first, second, INSTANCES)
-}
-
-/// Compares two clusters like [`first_difference`], but makes the calls about instances only for instances below `end`.
-pub fn first_difference_below(
-    alloc: Global,
-    first: &Cluster,
-    second: &Cluster,
-    end: u32,
-) -> Result<Option<&'static str>, AllocError> {
     if first.events() != second.events() {
         return Ok(Some("events"));
     }
@@ -133,7 +123,7 @@ pub fn first_difference_below(
     if let Some(found) = of_messages(first, second) {
         return Ok(Some(found));
     }
-    if let Some(found) = of_servers(first, second, end) {
+    if let Some(found) = of_servers(first, second) {
         return Ok(Some(found));
     }
     of_commands(alloc, first, second)

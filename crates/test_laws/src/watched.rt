@@ -248,8 +248,8 @@ impl Watched {
     }
 }
 
-// The key of all lookups.
-const KEY: &str = "a";
+/// The key of all lookups.
+pub const KEY: &str = "a";
 
 // Returns a new cluster after the first `taken` events of a scenario, and the next event.
 fn retraced(alloc: Global, bytes: &[u8], taken: usize) -> Result<(Cluster, Option<Event>), Stop> {

@@ -4,16 +4,14 @@ ghost use Rattle.std.specs.Prelude.{◌≡◌};
 
 use crate::courses::{new_cluster, plan_of};
 use crate::same::assert_same;
-use mencius_base::{Command, CommandId};
+use mencius_base::{Command, CommandId, Op};
 use mencius_board::{Board, BoardFault, Chooser, Plan, Reader, worker_turn};
 use mencius_cluster::{Answered, Cluster};
 use std::alloc::{AllocError, Global};
-use std::collections::BTreeMap;
 use std::marker::Model;
 use std::panic::Expect;
 use std::process::Abort;
 use std::sync::Wait;
-use test_support::plain_map::change;
 
 // Five servers and eight workers. Half of the choices lose a message.
 const EIGHT_WORKERS: &str = "{\"version\":1,\"servers\":5,\"workers\":8,\"seed\":7,\"turns\":2000,\
@@ -22,11 +20,23 @@ const EIGHT_WORKERS: &str = "{\"version\":1,\"servers\":5,\"workers\":8,\"seed\"
 
 // Returns the text that a list of commands leaves at a key.
 fn left_at(alloc: Global, commands: &[Command], key: &str) -> Result<Option<String>, AllocError> {
-    let mut texts = BTreeMap::new(alloc);
+    let mut left = None;
     for command in commands {
-        change(&mut texts, alloc, command.op())?;
+        match command.op() {
+            Op::Set { key: bound, text } if bound.as_str() == key => left = Some(text.as_str()),
+            Op::Del { key: bound } if bound.as_str() == key => left = None,
+            Op::Cas {
+                key: bound,
+                held,
+                text,
+            } if bound.as_str() == key && left == Some(held.as_str()) => left = Some(text.as_str()),
+            _ => {}
+        }
     }
-    Ok(texts.remove(key))
+    match left {
+        Some(text) => Ok(Some(String::from_str(alloc, text)?)),
+        None => Ok(None),
+    }
 }
 
 // A board and its reader.

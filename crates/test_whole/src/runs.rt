@@ -4,7 +4,7 @@
 use crate::courses::{new_board, new_cluster, plan_of};
 use crate::same::assert_same;
 use mencius_app::{AppFault, Open, Std, report, run};
-use mencius_base::{Command, CommandId, Entry};
+use mencius_base::{Command, CommandId, Entry, Op};
 use mencius_board::{Board, Chooser, Gate, Plan, lend, run_workers, worker_turn};
 use mencius_cluster::Cluster;
 use std::alloc::{AllocError, Global};
@@ -13,7 +13,6 @@ use std::process::Abort;
 use std::sync::atomic::{AtomicU64, Ordering};
 use std::sync::{Mutex, Wait};
 use std::thread::Threads;
-use test_support::plain_map::push_op;
 
 // Three servers and one worker.
 const ONE_WORKER: &str = "{\"version\":1,\"servers\":3,\"workers\":1,\"seed\":1,\"turns\":2000,\
@@ -81,6 +80,16 @@ fn push_command(line: &mut String, command: &Command) -> Result<(), AllocError> 
     let CommandId { client, number } = command.id();
     write!(line, "{client}.{number} ")?;
     push_op(line, command.op())
+}
+
+// Adds the text of an operation of `ONE_WORKER`: its word, its key and its text.
+fn push_op(line: &mut String, op: &Op) -> Result<(), AllocError> {
+    match op {
+        Op::Set { key, text } => write!(line, "set {} {}", key.as_str(), text.as_str()),
+        Op::Get { key } => write!(line, "get {}", key.as_str()),
+        Op::Del { key } => write!(line, "del {}", key.as_str()),
+        _ => line.push_str("another operation"),
+    }
 }
 
 // Adds the text of a cluster's event, with its word, and its numbers or its command.

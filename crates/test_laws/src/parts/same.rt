@@ -1,10 +1,10 @@
 //! Compares single servers and executors by the results of their calls.
 
 use super::Parts;
+use crate::watched::KEY;
 use map_exec::Executor;
-use mencius_base::{Command, INSTANCES, Outbox};
+use mencius_base::{INSTANCES, Outbox};
 use mencius_server::Server;
-use test_support::plain_map::key_of;
 
 /// Compares the results of all calls of two parts. Returns the name of the first call whose results differ, or `None`
 /// if all results are the same.
@@ -16,7 +16,7 @@ pub fn first_difference(first: &Parts, second: &Parts) -> Option<&'static str> {
         }
     }
     for (one, other) in first.executors.iter().zip(second.executors.iter()) {
-        let found = of_executor(one, other, first.commands.as_slice());
+        let found = of_executor(one, other);
         if found.is_some() {
             return found;
         }
@@ -56,16 +56,12 @@ fn of_instance(first: &Server, second: &Server, inst: u32) -> Option<&'static st
     None
 }
 
-// Compares two executors. Lookups are compared at the keys of these commands.
-fn of_executor(first: &Executor, second: &Executor, commands: &[Command]) -> Option<&'static str> {
+fn of_executor(first: &Executor, second: &Executor) -> Option<&'static str> {
     if first.history() != second.history() {
         return Some("history");
     }
-    for command in commands {
-        let key = key_of(command.op());
-        if first.get(key) != second.get(key) {
-            return Some("get");
-        }
+    if first.get(KEY) != second.get(KEY) {
+        return Some("get");
     }
     None
 }
