@@ -5,13 +5,15 @@ use Rattle.mencius_model.specs.Next.{replay}
 use Rattle.mencius_model.specs.Replies.{longest_commands}
 use Rattle.mencius_cluster.specs.State.{ClusterState, trace_of}
 use Rattle.mencius_input.specs.Plan.{plan}
+use Rattle.mencius_input.specs.Scenario.{scenario}
 use Rattle.mencius_app.specs.Input.{HasFault, Says, unless_long}
-use Rattle.mencius_app.specs.Journal.{ReadsBack, journal_text}
 use Rattle.mencius_app.specs.Plan.{IsOutcome}
+use Rattle.mencius_app.specs.Replay.{replay_text}
 use Rattle.mencius_app.specs.Report.{report_text}
 use Rattle.mencius_app.specs.Tasks.{Task}
 use Rattle.mencius_judge.specs.Observed.{log_of}
 use Rattle.mencius_judge.specs.Written.{log_text}
+use Rattle.mencius_observer.specs.Journal.{journal_text, journal_written}
 use Rattle.mencius_trace.specs.Words.{former_text}
 use Rattle.mencius_input.specs.declared.scenario.Scenario.{Scenario}
 use Rattle.mencius_base.specs.Plan.{PlanState}
@@ -46,6 +48,12 @@ run_text with_journal with_observations key x =
     journal_line with_journal x ++ (body_text with_observations x ++ lookup_line key (found_text key x))
 
 -- ---- the whole
+
+-- the text of the journal is a scenario of `replay` with the same members and the events of the journal. The text of
+-- its replay is the report, without a line for a refused event
+pub record ReadsBack (x : ClusterState) : Type 0 where
+  pub again : unless_long scenario (journal_text x.members x.journal) ≡ Ok (journal_written x.members x.journal)
+  pub rest : replay_text x.members x.journal ≡ report_text x.members (trace_of x)
 
 -- the text belongs to a run of a scenario. If the reader's bytes are known, they are this scenario. The text describes
 -- a cluster after all turns of the plan. The journal of this cluster replays, and the line of the journal, if

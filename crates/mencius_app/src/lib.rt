@@ -10,7 +10,6 @@ mod ending;
 mod failure;
 mod fault;
 mod input;
-mod journal;
 mod judgements;
 mod no_task;
 mod output;
