@@ -129,7 +129,8 @@ impl Walk {
     }
 }
 
-fn walk(alloc: Global, bytes: &[u8]) -> Result<(), Stop> {
+// Steps a cluster through the schedule in the bytes, and delivers all its messages again.
+fn try_schedule(alloc: Global, bytes: &[u8]) -> Result<(), Stop> {
     let scenario = match read_scenario(alloc, bytes) {
         Ok(scenario) => scenario,
         Err(IoFault::NoMemory) => return Err(Stop::NoMemory),
@@ -143,7 +144,7 @@ fn walk(alloc: Global, bytes: &[u8]) -> Result<(), Stop> {
 /// Tests the histories and replies on the schedule in the bytes. Returns the exit status, and writes what is wrong to
 /// standard error.
 pub fn try_laws<E: Sink>(alloc: Global, bytes: &[u8], errors: &mut E) -> u8 {
-    match walk(alloc, bytes) {
+    match try_schedule(alloc, bytes) {
         Ok(()) => 0,
         Err(Stop::NoScenario) => 2,
         Err(Stop::NoMemory) => 6,
