@@ -23,8 +23,7 @@ async function compressed(text) {
 }
 
 async function decompressed(text) {
-  const letters = atob(text.replaceAll('-', '+').replaceAll('_', '/'));
-  const bytes = Uint8Array.from(letters, letter => letter.charCodeAt(0));
+  const bytes = bytesOfBase64(text.replaceAll('-', '+').replaceAll('_', '/'));
   return new TextDecoder().decode(await throughStream(bytes, new DecompressionStream('deflate-raw')));
 }
 

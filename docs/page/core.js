@@ -2,10 +2,16 @@
 // The proved code, as WebAssembly. A call takes arguments and standard input. It returns the standard output, the
 // standard error and the status of the program. No other code of the page computes anything of the protocol.
 
+// Decodes a text in base64. For the module, this loop is several times faster than `Uint8Array.from`.
+function bytesOfBase64(text) {
+  const letters = atob(text), bytes = new Uint8Array(letters.length);
+  for (let at = 0; at < letters.length; at += 1) bytes[at] = letters.charCodeAt(at);
+  return bytes;
+}
+
 // Decodes a text in base64, and decompresses the result with gzip.
 async function unpacked(text) {
-  const packed = Uint8Array.from(atob(text), letter => letter.charCodeAt(0));
-  const stream = new Blob([packed]).stream().pipeThrough(new DecompressionStream('gzip'));
+  const stream = new Blob([bytesOfBase64(text)]).stream().pipeThrough(new DecompressionStream('gzip'));
   return new Uint8Array(await new Response(stream).arrayBuffer());
 }
 

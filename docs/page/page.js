@@ -331,9 +331,16 @@ async function openAddress(isFirst) {
   if (hash.length > 1) showBadLink(link);
 }
 
+// Waits until the browser has painted the page once, so that the first paint does not wait for the module. A hidden
+// page is not painted.
+const firstPaint = () => new Promise(resolve => {
+  if (document.hidden) resolve(); else requestAnimationFrame(() => setTimeout(resolve));
+});
+
 async function main() {
   const begin = performance.now();
   try {
+    await firstPaint();
     const module = await WebAssembly.compile(await unpacked($('module').textContent));
     core = new Core(module, why =>
       say(`The module stopped (${why}) and was started again. The schedule is not lost.`));
