@@ -51,7 +51,7 @@ class Drawing {
   get time() { return this.prefix.events.length + this.added.length; }
 
   // The schedule with the drawn events.
-  get schedule() { return { ...this.prefix, events: [...this.prefix.events, ...this.added] }; }
+  get schedule() { return withEvents(this.prefix, this.added); }
 
   delay({ number, to }) {
     for (const server of to === null ? this.all : [to]) {

@@ -117,8 +117,8 @@ function add(event) {
 
 // Inserts events at the cursor, as one change.
 function insert(events) {
-  const { schedule, cursor } = page, before = schedule.events.slice(0, cursor);
-  return change({ ...schedule, events: [...before, ...events] }, cursor, 'Inserted at the cursor.');
+  const { schedule, cursor } = page;
+  return change(withEvents(prefixOf(schedule, cursor), events), cursor, 'Inserted at the cursor.');
 }
 
 function takeOut() {

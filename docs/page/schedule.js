@@ -53,13 +53,20 @@ function readScenario(text) {
 function prefixOf(schedule, length) {
   return length >= schedule.events.length ? schedule : { ...schedule, events: schedule.events.slice(0, length) };
 }
-const withEvent = (schedule, event) => ({ ...schedule, events: [...schedule.events, event] });
 
-// The text of `withEvent(schedule, event)`. It begins with the text of the schedule, so a long one is not written again.
-function scenarioAfter(schedule, event) {
-  if (schedule.events.length === 0 || versionOf([event]) > 1) return asScenario(withEvent(schedule, event));
-  return `${asScenario(schedule).slice(0, -']}'.length)},${JSON.stringify(event)}]}`;
+// The schedule with more events at its end. Its text begins with that of the schedule, so a long one is not written
+// again.
+function withEvents(schedule, added) {
+  const longer = { ...schedule, events: [...schedule.events, ...added] };
+  if (schedule.events.length > 0 && versionOf(added) === 1) {
+    const more = added.map(event => `,${JSON.stringify(event)}`).join('');
+    scenarios.set(longer, `${asScenario(schedule).slice(0, -']}'.length)}${more}]}`);
+  }
+  return longer;
 }
+
+const withEvent = (schedule, event) => withEvents(schedule, [event]);
+const scenarioAfter = (schedule, event) => asScenario(withEvent(schedule, event));
 
 // ---- the place of a mistake in a text, from the words of the program
 

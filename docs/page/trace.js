@@ -5,6 +5,8 @@
 const NO_SLOT = { promised: 0, vote: null, tried: 0, promises: null, acceptances: null, proposal: null, learned: null,
   at: -1, fields: [] };
 
+const UNHEARD = 'unheard ';
+
 // The length of the lines that tell of events. The lines after them are about the state after the last event.
 const lengthOfEvents = text => text.lastIndexOf('\nserver 0 front ') + 1;
 
@@ -18,7 +20,9 @@ class Trace {
     if (start > 0) this.copy(former);
     else this.begin();
     this.lines = text.slice(0, lengthOfEvents(text) || text.length);
-    for (const line of text.slice(start).split('\n')) this.read(line, line.split(' '));
+    for (const line of text.slice(start).split('\n')) {
+      if (line.startsWith(UNHEARD)) this.readUnheard(line); else this.read(line, line.split(' '));
+    }
   }
 
   copy({ servers, events, accepted, messages, lost, slots, proposals, commands, histories, replies }) {
@@ -53,6 +57,13 @@ class Trace {
     if (reader) reader(this, words);
     const isOfEvent = this.closing.length === 0 && words[0] !== 'event' && words[0] !== 'servers';
     if (isOfEvent) this.events.at(-1)?.lines.push(line);
+  }
+
+  // A trace of 10,000 events has thousands of these lines, `unheard NUMBER KIND to SERVER`, so they are not split.
+  readUnheard(line) {
+    const number = parseInt(line.slice(UNHEARD.length), 10), to = +line.slice(line.lastIndexOf(' ') + 1);
+    this.unheard.push({ number, to });
+    this.due[to].push(number);
   }
 
   // The messages that a server has heard, in the order of sending. It may hear them again.
@@ -134,11 +145,6 @@ const READERS = {
     const [front, executed, next] = [3, 5, 7].map(place => +words[place]);
     trace.closing.push({ front, executed, next, waiting: words.slice(9).filter(word => word !== '-') });
     trace.due.push([]);
-  },
-  unheard(trace, words) {
-    const [number, to] = [+words[1], +words[4]];
-    trace.unheard.push({ number, to });
-    trace.due[to].push(number);
   },
 };
 
