@@ -142,6 +142,7 @@ function wireLog() {
 function judgeLog(core) {
   const text = draft.judged;
   judging.wanted = null;
+  clearTimeout(later.timeline);
   if (text.length <= JUDGED_AT_ONCE) {
     showJudgement(text, core.call(['judge'], text));
     return;

@@ -29,6 +29,20 @@ function later(name, wait, action) {
   later[name] = setTimeout(action, wait);
 }
 
+// In milliseconds. Long work is done in pieces of this length, so that the page stays responsive.
+const PIECE = 12;
+
+// Runs a generator to its end, and then calls `whenDone`. It gives up former work of the same name.
+function inPieces(name, work, isLong, whenDone) {
+  const goOn = () => {
+    const until = performance.now() + PIECE;
+    while (!isLong || performance.now() < until) if (work.next().done) { whenDone(); return; }
+    later(name, 0, goOn);
+  };
+  clearTimeout(later[name]);
+  goOn();
+}
+
 // ---- all changes of the schedule and the cursor
 
 // A click needs the trace of the same schedule several times, so the latest traces are kept.

@@ -10,6 +10,8 @@ const MOST_LANES = 24;
 // Bars next to each other in a lane.
 const MOST_BARS = 16;
 const GROUPS = ['client', 'server', 'reader'];
+// In lines: so many are read without a pause.
+const AT_A_TIME = 500;
 
 // The forms of the lines. The first two words of a command's identity are its client and its number.
 const FORMS = {
@@ -66,13 +68,24 @@ const goneText = (first, last) =>
 
 class Timeline {
   // `quoted` contains the numbers of the lines that a verdict quotes, in ascending order.
-  constructor(text, quoted) {
-    Object.assign(this, { quoted, total: countLines(text), commands: new Map(), marks: [], lanes: [] });
+  constructor(quoted) {
+    Object.assign(this, { quoted, commands: new Map(), marks: [], lanes: [] });
+  }
+
+  // Reads a log. A long one takes more time than the page may be blocked, so there are pauses between the steps.
+  * reading(text) {
+    const { quoted } = this;
+    this.total = countLines(text);
     // The verdict depends on the lines up to this one. The last quoted line ends the judgement.
     this.judged = quoted.at(-1) ?? this.total;
+    yield;
     this.rows = shownRows(text, this.total, quoted);
-    this.rows.forEach(({ text: line }, row) => this.read(line, row));
-    for (const group of GROUPS) this.addLanes(group);
+    for (const [row, { text: line }] of this.rows.entries()) {
+      if (row % AT_A_TIME === 0) yield;
+      this.read(line, row);
+    }
+    for (const group of GROUPS) { yield; this.addLanes(group); }
+    yield;
     this.bars = [...this.commands.values()].sort((one, other) => one.from - other.from);
     for (const bar of this.bars) this.place(bar);
     this.hidden = this.bars.filter(({ column }) => column === null).length;

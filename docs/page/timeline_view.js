@@ -16,7 +16,14 @@ function fillTimeline(text, { printed, said }) {
   const quoted = [...(printed || said).matchAll(/^line (\d+): (.*)$/gm)]
     .map(([, number, content]) => ({ number: +number, text: content }));
   const numbers = quoted.map(({ number }) => number).sort((one, other) => one - other);
-  board.timeline = new Timeline(text, numbers);
+  const timeline = new Timeline(numbers);
+  const isLong = text.length > JUDGED_AT_ONCE, show = () => showTimeline(timeline, printed ? quoted : []);
+  inPieces('timeline', timeline.reading(text), isLong, show);
+}
+
+// Shows a timeline that has read its log. `quoted` are the quoted lines that get a button.
+function showTimeline(timeline, quoted) {
+  board.timeline = timeline;
   board.lit = null;
   board.last = -1;
   showLogOverview();
@@ -25,13 +32,13 @@ function fillTimeline(text, { printed, said }) {
   $('timeline-verdict').textContent = $('judgement').textContent;
   $('timeline-words').textContent = $('in-words').textContent;
   $('left-out').textContent = leftOut(board.timeline);
-  fillQuoted(printed ? quoted : []);
+  fillQuoted(quoted);
   fillLaneHeads();
   showCard();
   later('overview', 0, drawOverview);
   // The place stays while the user edits the log, unless the verdict quotes other lines.
-  const place = numbers.join(' ');
-  if (place !== board.place && numbers.length > 0) goToLine(numbers.at(-1));
+  const place = timeline.quoted.join(' ');
+  if (place !== board.place && timeline.quoted.length > 0) goToLine(timeline.quoted.at(-1));
   board.place = place;
   showRows();
 }
