@@ -22,7 +22,7 @@ const NOTHING_PASSES = 'No event passes the filter.';
 // events between this row and the former one.
 const picture = {
   drawn: null, svg: null, rows: [], zoom: 1, room: 800, left: LEFT, right: 0, width: 800, height: 0, digits: 0,
-  servers: 0,
+  servers: 0, sight: 600,
 };
 
 function el(tag, attributes = {}, ...children) {
@@ -86,7 +86,7 @@ function drawPicture(core, page) {
   }
   // A template is not in the page yet, so these changes need no layout.
   const box = el('template');
-  box.innerHTML = answer.printed;
+  box.innerHTML = lanesOf(answer.printed);
   cutDrawing(box.content.querySelector('svg'), schedule, list);
   makeRoomForNumbers(schedule.events.length);
   fitPicture(schedule.servers);
@@ -95,6 +95,13 @@ function drawPicture(core, page) {
   const isEmpty = schedule.events.length === 0;
   if (list.length === 0) $('drawing').append(el('p', { id: 'empty' }, isEmpty ? EMPTY : NOTHING_PASSES));
   fillRows(schedule);
+}
+
+// The text of a picture without the cards at its foot and the key below them. The cards of a long schedule contain
+// thousands of numbers.
+function lanesOf(printed) {
+  const foot = printed.indexOf("<g class='foot'");
+  return foot < 0 ? printed : `${printed.slice(0, foot)}</svg>`;
 }
 
 const sameList = (one, other) =>
@@ -107,6 +114,7 @@ function cutDrawing(svg, schedule, list) {
   const rows = fold(svg, rowsOfPicture(svg), list), bottom = bottomOf(svg);
   layArrowsBelow(svg);
   backLabels(svg);
+  setFarAside(svg);
   picture.rows = rows;
   placeViewBox(svg, schedule, bottom);
   svg.removeAttribute('role');
@@ -148,9 +156,10 @@ function makeRoomForNumbers(length) {
   measure();
 }
 
-// Stores the width that is available for a picture.
+// Stores the width that is available for a picture, and the height that is in sight.
 function measure() {
   picture.room = $('stage').clientWidth - $('rows').offsetWidth;
+  picture.sight = $('stage').clientHeight;
 }
 
 // Fits the picture to the available width, within bounds, and aligns the names and cards with its lanes.
@@ -199,6 +208,7 @@ function markCursor(cursor) {
   const band = $('drawing').querySelector('#band');
   band?.setAttribute('y', TOP + (here?.top ?? 0));
   band?.setAttribute('height', here?.height ?? 0);
+  showNear(here);
   showRow(here);
   if (cursor > 0) showLane(picture.drawn.schedule.events[cursor - 1]);
 }
