@@ -12,7 +12,7 @@ const MOST_LABELS = 400;
 const MOST_FOLDED = 1_500;
 // Positions in a picture of `mencius draw`: its left and upper edge, the first lane, and the distance of the lanes.
 const LEFT = 296, TOP = 84, FIRST_LANE = 452, APART = 204, HALF_ROW = 12;
-const SMALLEST = 0.85;
+const SMALLEST = 0.81;
 const EMPTY = 'Nothing has happened. Click “submit ..” below a server to submit a command, or press R for'
   + ' a random event.';
 
