@@ -5,8 +5,8 @@
 
 // The sizes of the letters left and right of a mark, and the space between a label and the mark, as in the picture.
 const LETTERS = { cause: 11, says: 12 }, BESIDE = { cause: 24, says: 26 };
-// The space around a label.
-const PADDING = 3;
+// The space around a label, and the width of the line around its box.
+const PADDING = 3, LINE = 2;
 const SVG = 'http://www.w3.org/2000/svg';
 
 function svgEl(tag, attributes = {}, ...children) {
@@ -62,5 +62,5 @@ function endsOfLabels(svg) {
     laneOf(label) - BESIDE.cause - widthOfLabel(label, 'cause'));
   const rights = [...svg.querySelectorAll('.event ~ g .says')].map(label =>
     laneOf(label) + BESIDE.says + 2 * PADDING + widthOfLabel(label, 'says'));
-  return [Math.floor(Math.min(...lefts)) - 2 * PADDING, Math.ceil(Math.max(...rights)) + 2 * PADDING];
+  return [Math.floor(Math.min(...lefts)) - 2 * PADDING, Math.ceil(Math.max(...rights)) + 2 * PADDING + LINE];
 }
