@@ -1,6 +1,7 @@
 """The browsers that open the page. Chromium is driven by selenium. Firefox is driven by its own protocol, Marionette,
 because Debian does not have geckodriver. Both classes have the same calls for clicks, keys and texts."""
 import base64
+import contextlib
 import json
 import os
 import shutil
@@ -227,6 +228,30 @@ class Firefox(Browser):
 
     def requests(self):
         return self.run("return performance.getEntriesByType('resource').map(entry => entry.name)")
+
+    def own_time(self, script, until=None):
+        """The processor time in milliseconds that the thread of the page needs for a script, until another script
+        `until` returns a true value. It contains all work of this thread, also the calls of this class."""
+        before = self.used()
+        self.run(f"{script}; document.body.offsetHeight")
+        if until:
+            self.wait(until, f"the end of {script}")
+        return (self.used() - before) / 1e6
+
+    def used(self):
+        """The nanoseconds that the main threads of the processes for pages from the disk have worked."""
+        used = 0
+        for process in os.listdir("/proc"):
+            with contextlib.suppress(OSError):
+                if process.isdigit() and self.is_for_files(process):
+                    with open(f"/proc/{process}/task/{process}/schedstat", encoding="ascii") as file:
+                        used += int(file.read().split()[0])
+        return used
+
+    def is_for_files(self, process):
+        with open(f"/proc/{process}/stat", encoding="utf-8", errors="replace") as file:
+            name, rest = file.read().split("(", 1)[1].rsplit(")", 1)
+        return name == "file:// Content" and int(rest.split()[1]) == self.process.pid
 
     def shot(self, path):
         with open(path, "wb") as file:

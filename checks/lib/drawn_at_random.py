@@ -1,6 +1,7 @@
 """Tries the random steps of the page. 120 of them must decide, revoke and execute instances, as the schedules of
 conformance/drawing.py do. Twenty steps must take one rendering and one undo, also after 10,000 events."""
-from page_user import URL, cursor, same
+import readable
+from page_user import URL, act, cursor, same
 from shared import fail, say
 
 MOST_MILLISECONDS = 300
@@ -10,6 +11,7 @@ EVENTS = 10_000
 
 def look(browser):
     look_at_the_events(browser)
+    compare_the_texts(browser)
     count_the_renderings(browser)
 
 
@@ -36,6 +38,17 @@ def look_at_the_events(browser):
     if most > 20:
         fail(f"{browser.name}: {most} of 120 random events are suspicions")
     same(browser, "the refused random events", 0, sum(line[0] == "refused" for line in lines))
+
+
+def compare_the_texts(browser):
+    """The page makes the text of a longer schedule from that of a shorter one. It must be the text of all its events,
+    also if a new event needs another version."""
+    wrong = browser.run("""const [word] = Object.keys(DATA.operations.versions), { schedule } = page;
+      const older = ['execute 0', 'submit 0 9.1 set "a" \\\\'], newer = [`submit 0 9.2 ${word} a`];
+      const cases = [[], older, newer, [...older, ...newer, ...older]].flatMap(added =>
+        [emptyOf(schedule), schedule, withEvents(schedule, newer)].map(start => withEvents(start, added)));
+      return cases.filter(one => asScenario(one) !== asScenario({ ...one })).map(one => one.events.slice(-3))""")
+    same(browser, "the ends of schedules whose text is wrong", [], wrong)
 
 
 def count_the_renderings(browser):
@@ -69,3 +82,14 @@ def time_long_steps(browser):
     if steps[0] >= MOST_FOR_A_STEP:
         fail(f"a step at {EVENTS} events takes {steps[0]:.0f} ms of processor time, not less than {MOST_FOR_A_STEP}")
     say(f"a step at {EVENTS} events takes {steps[0]:.0f} to {steps[-1]:.0f} ms of processor time")
+    look_at_the_width(browser)
+
+
+def look_at_the_width(browser):
+    """The labels of a long schedule have long numbers. Three lanes must nevertheless fit into 1280 pixels."""
+    with readable.window(browser, 1280, 800):
+        for place in (EVENTS, EVENTS // 2):
+            act(browser, f"before {place}")
+            browser.wait("const { scrollWidth, clientWidth } = document.getElementById('stage');"
+                         "return innerWidth === 1280 && scrollWidth <= clientWidth",
+                         f"three lanes in 1280 pixels after {place} events")

@@ -12,6 +12,8 @@ MOST_MILLISECONDS = 150
 # Other work of the machine can only lengthen a measurement, so the shortest one of these counts.
 TIMES = 3
 COMMANDS = 20_000
+# The timeline shows 20,000 lines. It reads them in 50 ms or more, and a piece of this may take some milliseconds.
+LEAST_PAUSES = 20
 
 
 def look(browser):
@@ -68,6 +70,21 @@ def long_log():
     return "\n".join([*lines, "execute 1 1.1", ""])
 
 
+def count_the_pauses(browser, verdict):
+    """If each look at the clock says that a piece of work is over, the page must pause several times while it reads the
+    log, and must still show all of it."""
+    browser.choose("#logs", "kept")
+    browser.run("window.pauses = 0; const clock = performance.now.bind(performance), after = later; let ahead = 0;"
+                "performance.now = () => clock() + (ahead += 1000);"
+                "window.later = (name, ...rest) => { window.pauses += name === 'timeline'; after(name, ...rest); };"
+                "window.restore = () => { delete performance.now; window.later = after; }")
+    browser.choose("#logs", "own")
+    browser.wait(verdict, "the verdict on a log that is read in pieces")
+    pauses = browser.run("window.restore(); return window.pauses")
+    if pauses < LEAST_PAUSES:
+        fail(f"the page reads a long log with {pauses} pauses, not with at least {LEAST_PAUSES}")
+
+
 def judge_a_long_log(browser):
     """Server 1 begins with the second command. The last line says so, and the page works meanwhile. The field does not
     contain the log. The log stays in the page for timelines.py."""
@@ -96,5 +113,6 @@ def judge_a_long_log(browser):
     browser.choose("#logs", "kept")
     browser.choose("#logs", "own")
     browser.wait(verdict, "the verdict on the long log after another one")
+    count_the_pauses(browser, verdict)
     say(f"a log of {len(log)} letters takes {min(opened):.0f} to {max(opened):.0f} ms of processor time of the page, and"
         f" {min(begun):.0f} to {max(begun):.0f} of them until the worker judges it. The judgement takes {judged:.0f} ms")

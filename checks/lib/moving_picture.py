@@ -16,6 +16,7 @@ def look(browser):
     click_messages(browser)
     filter_events(browser)
     use_the_strip(browser)
+    look_at_far_parts(browser)
     play(browser)
 
 
@@ -35,6 +36,9 @@ CUT = """const box = part => part.getBoundingClientRect(), edge = box(document.q
     width > 0 && (left < Math.max(edge.left, stage) - 0.5 || right > edge.right + 0.5);
   return [...document.querySelectorAll('#drawing text')].filter(text => isCut(box(text)))
     .map(text => text.textContent)"""
+CUT_BOXES = """const box = part => part.getBoundingClientRect(), edge = box(document.querySelector('#drawing svg'));
+  return [...document.querySelectorAll('#drawing .sent')].filter(sent =>
+    box(sent.querySelector('rect')).right > edge.right - 0.5).map(sent => sent.textContent)"""
 STRUCK = """const box = part => part.getBoundingClientRect(), arrows = [...document.querySelectorAll('#drawing .way')];
   const isIn = (inner, outer) => inner.left >= outer.left - 1 && inner.right <= outer.right + 1;
   return [...document.querySelectorAll('#drawing g:not(.lane) > text')].filter(text => {
@@ -53,6 +57,7 @@ def look_at_labels(browser):
     browser.choose("#example", "wrong_suspicion_keeps_the_command")
     same(browser, "the labels of an example that are cut off", [], browser.run(CUT))
     same(browser, "the labels of an example behind an arrow", [], browser.run(STRUCK))
+    same(browser, "the boxes of an example whose line is cut off", [], browser.run(CUT_BOXES))
 
 
 def look_at_long_numbers(browser):
@@ -157,11 +162,11 @@ def shown(browser):
       [...document.querySelectorAll(selector)].map(part => +part.dataset.e).sort((one, other) => one - other))""")
 
 
-def many_events():
+def many_events(commands=8):
     """Each command of server 0 takes six events and an instance: 0, 3, 6, .. The fourth event repeats the second one.
     A command takes three messages: its suggestion, and two acceptances."""
     events = []
-    for number in range(8):
+    for number in range(commands):
         first = 3 * number
         events += [f"submit 0 1.{number} set a x", f"deliver {first} 0", f"deliver {first + 1} 0",
                    f"deliver {first} 0", f"lose {first} 2", f"lose {first} 1"]
@@ -224,6 +229,36 @@ def use_the_strip(browser):
     browser.choose("#example", "one_command")
     hidden = browser.run("return document.getElementById('view').hidden")
     same(browser, "whether the bar of a short schedule is hidden", True, hidden)
+
+
+# ---- the parts of a long picture that are laid out later
+
+# Goes to a place. Returns how many parts are hidden then, and the events of hidden parts whose rows are in sight.
+GO_FAR = """document.getElementById('slider').value = %d;
+  document.getElementById('slider').dispatchEvent(new Event('input'));
+  const box = selector => document.querySelector(selector).getBoundingClientRect();
+  const from = box('#heads').bottom, to = box('#dock').top;
+  const isInSight = event => {
+    const { top, bottom } = box(`#rows [data-e="${event}"]`);
+    return bottom > from && top < to;
+  };
+  const hidden = [...document.querySelectorAll('#drawing g[data-e]')]
+    .filter(part => getComputedStyle(part).display === 'none').map(part => part.dataset.e);
+  return [hidden.length, hidden.filter(isInSight)]"""
+
+
+def look_at_far_parts(browser):
+    """The rows in sight are drawn at once. The others follow soon."""
+    browser.open(link(many_events(20)))
+    for place in (60, 5, 90):
+        hidden, missing = browser.run(GO_FAR % place)
+        same(browser, f"the rows in sight without marks after {place} events", [], missing)
+        same(browser, f"whether the page lays out a part of the picture later, after {place} events", True, hidden > 0)
+        browser.wait("return !document.querySelector('#drawing .far')", "the rest of the picture")
+        flat = browser.run("return [...document.querySelectorAll('#drawing g:not(.lane) > text')]"
+                           ".filter(text => text.getBoundingClientRect().width === 0).map(text => text.textContent)")
+        same(browser, f"the labels that stay hidden after {place} events", [], flat)
+    browser.choose("#example", "one_command")
 
 
 # ---- play

@@ -75,6 +75,20 @@ def look_at_a_laptop(browser):
     same(browser, f"whether the header takes one line, {head} px", True, head < 60)
     same(browser, f"whether three servers fit, {wide} px in {room} px", True, wide <= room)
     look_at_the_header_of_a_long_schedule(browser)
+    look_at_a_difference(browser)
+
+
+def look_at_a_difference(browser):
+    """The panel scrolls by itself. Its words for a screen reader may not make the page longer than the window."""
+    browser.open(URL)
+    browser.choose("#example", "one_command")
+    browser.click("#tab-compare")
+    learned = "learned 0 instance 0 value "
+    trace = browser.run("return page.whole.text").replace(learned + "1.0", learned + "no-op")
+    browser.write("#output", trace)
+    browser.wait("return document.querySelector('#sides .unseen')", "the difference")
+    long, room = browser.run("return [document.documentElement.scrollHeight, innerHeight]")
+    same(browser, f"whether the page, {long} px, fits into the window, {room} px", True, long <= room)
 
 
 def look_at_the_header_of_a_long_schedule(browser):
