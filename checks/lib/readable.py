@@ -4,6 +4,7 @@ import contextlib
 import json
 
 import files
+import moving_picture
 from page_user import URL, act, same
 
 # The least contrast that WCAG 2 asks for, and the least size of a target in pixels.
@@ -109,6 +110,10 @@ def look_at_a_narrow_window(browser, what):
     names, hint = browser.run("""const box = id => document.getElementById(id).getBoundingClientRect();
       return [box('heads').top, box('hint').bottom].map(Math.round)""")
     same(browser, f"whether the names, at {names} px, are below the hint, which ends at {hint} px", True, names >= hint)
+    moving_picture.card_at(browser, "#m0 text")
+    right, room = browser.run("return [document.getElementById('about').getBoundingClientRect().right,"
+                              "document.documentElement.clientWidth]")
+    same(browser, f"whether the card ends, at {right} px, before the scroll bar, at {room} px", True, right < room)
     browser.choose("#example", "duelling_revokers")
     for place in (19, 2, 10, 18):
         act(browser, f"before {place}")

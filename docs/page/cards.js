@@ -52,7 +52,9 @@ function openCard(found, x, y, isPinned = false) {
   box.classList.toggle('pinned', isPinned);
   box.setAttribute('role', isPinned ? 'dialog' : 'tooltip');
   box.hidden = false;
-  const right = innerWidth - box.offsetWidth - 8, bottom = innerHeight - box.offsetHeight - 8;
+  // Unlike the width of the window, this one does not contain a scroll bar.
+  const { clientWidth, clientHeight } = document.documentElement;
+  const right = clientWidth - box.offsetWidth - 8, bottom = clientHeight - box.offsetHeight - 8;
   box.style.left = `${Math.max(8, Math.min(x + 14, right))}px`;
   box.style.top = `${Math.max(8, y + 16 <= bottom ? y + 16 : y - box.offsetHeight - 12)}px`;
   if (isPinned) box.querySelector('button')?.focus();
