@@ -241,17 +241,14 @@ class Firefox(Browser):
     def used(self):
         """The nanoseconds that the main threads of the processes for pages from the disk have worked."""
         used = 0
-        for process in os.listdir("/proc"):
+        for process in filter(str.isdigit, os.listdir("/proc")):
             with contextlib.suppress(OSError):
-                if process.isdigit() and self.is_for_files(process):
+                name, parent = name_and_parent(process)
+                # Firefox starts a process that starts the processes of pages.
+                if name == "file:// Content" and self.process.pid in (parent, name_and_parent(parent)[1]):
                     with open(f"/proc/{process}/task/{process}/schedstat", encoding="ascii") as file:
                         used += int(file.read().split()[0])
         return used
-
-    def is_for_files(self, process):
-        with open(f"/proc/{process}/stat", encoding="utf-8", errors="replace") as file:
-            name, rest = file.read().split("(", 1)[1].rsplit(")", 1)
-        return name == "file:// Content" and int(rest.split()[1]) == self.process.pid
 
     def shot(self, path):
         with open(path, "wb") as file:
@@ -263,6 +260,12 @@ class Firefox(Browser):
             self.process.wait(SECONDS)
         except (OSError, subprocess.TimeoutExpired):
             self.process.kill()
+
+
+def name_and_parent(process):
+    with open(f"/proc/{process}/stat", encoding="utf-8", errors="replace") as file:
+        name, rest = file.read().split("(", 1)[1].rsplit(")", 1)
+    return name, int(rest.split()[1])
 
 
 def connected(port):
