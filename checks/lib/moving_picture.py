@@ -250,7 +250,7 @@ GO_FAR = """document.getElementById('slider').value = %d;
 def look_at_far_parts(browser):
     """The rows in sight are drawn at once. The others follow soon."""
     browser.open(link(many_events(20)))
-    for place in (60, 5, 90):
+    for place in (60, 90, 30):
         hidden, missing = browser.run(GO_FAR % place)
         same(browser, f"the rows in sight without marks after {place} events", [], missing)
         same(browser, f"whether the page lays out a part of the picture later, after {place} events", True, hidden > 0)
