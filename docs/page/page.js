@@ -36,7 +36,9 @@ const PIECE = 12;
 function inPieces(name, work, isLong, whenDone) {
   const goOn = () => {
     const until = performance.now() + PIECE;
-    while (!isLong || performance.now() < until) if (work.next().done) { whenDone(); return; }
+    do {
+      if (work.next().done) { whenDone(); return; }
+    } while (!isLong || performance.now() < until);
     later(name, 0, goOn);
   };
   clearTimeout(later[name]);
