@@ -49,10 +49,10 @@ def two_events(stores):
     stores.write("two_events", HEAD + f"show({WRONG_SECOND_EVENT})\n")
     expect("compare two_events", f"""\
 shortened to 2 events (no event can be left out) in FILE:
-{FIRST_LINES}- event 1 deliver 0 0
-+ event 2 deliver 0 0
-  sent 1 Accepted from 0 to 0 instance 0 ballot 0
-""" + link(1, "submit 0 1.0 get a", "deliver 0 0"), stores.compare("two_events", [], 1).partition("\n\n")[2])
+{FIRST_LINES}- event 1 submit 0 2.0 get a
++ event 2 submit 0 2.0 get a
+  sent 1 Suggest from 0 to all instance 1 ballot 0 value 2.0
+""" + link(1, "submit 0 1.0 get a", "submit 0 2.0 get a"), stores.compare("two_events", [], 1).partition("\n\n")[2])
 
 
 def failing_later(stores):
