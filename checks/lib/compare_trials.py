@@ -132,9 +132,10 @@ def as_json(stores):
     shortest = found["shortest"]
     expect("compare --json", json.dumps({
         "about": "lines", "words": "its trace has other lines", "event": 1, "servers": 1, "beta": 0,
-        "events": ["submit 0 1.0 get a", "deliver 0 0"], "standard_error": [],
-        "expected": ["event 1 deliver 0 0", "sent 1 Accepted from 0 to 0 instance 0 ballot 0"],
-        "found": ["event 2 deliver 0 0", "sent 1 Accepted from 0 to 0 instance 0 ballot 0"]}, sort_keys=True),
+        "events": ["submit 0 1.0 get a", "submit 0 2.0 get a"], "standard_error": [],
+        "expected": ["event 1 submit 0 2.0 get a", "sent 1 Suggest from 0 to all instance 1 ballot 0 value 2.0"],
+        "found": ["event 2 submit 0 2.0 get a", "sent 1 Suggest from 0 to all instance 1 ballot 0 value 2.0"]},
+        sort_keys=True),
         json.dumps({name: value for name, value in shortest.items() if name != "schedule"}, sort_keys=True))
     wanted = {"agreed": 0, "interrupted": False, "is_least": False, "is_minimal": True, "is_steady": True,
               "file": "FILE", "link": link(1, *shortest["events"]).removeprefix("To look at it: ").rstrip()}
