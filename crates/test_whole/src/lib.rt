@@ -2,9 +2,10 @@
 //! that the libraries under test are read only once, and a crate of their own, so that no part is proved a second time
 //! with its tests.
 //!
-//! The parts are commands and outboxes, single instances, single servers, the map, boards with their readers and
-//! workers, and the judges of logs. The other tests cover each call of a cluster, the conclusions of callers, workers and
-//! readers on a board, and readers and writers that fail.
+//! The parts are commands and outboxes, single instances, single servers, the map, and boards with their readers and
+//! workers. The other tests cover each call of a cluster, the conclusions of callers, workers and readers on a board, and
+//! readers and writers that fail. The judges of logs have no test here, because `tests/logs.json` and `checks/clients`
+//! have worked logs for the built program.
 #![tactic(auto)]
 
 #[cfg(test)]
@@ -16,13 +17,9 @@ mod callers;
 #[cfg(test)]
 mod calls;
 #[cfg(test)]
-mod clients;
-#[cfg(test)]
 mod courses;
 #[cfg(test)]
 mod executor;
-#[cfg(test)]
-mod judge;
 #[cfg(test)]
 mod orders;
 #[cfg(test)]

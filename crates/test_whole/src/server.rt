@@ -3,11 +3,7 @@
 
 ghost use Rattle.std.specs.Prelude.{◌<◌};
 
-mod ahead;
-mod schedules;
-
 use crate::same::assert_same;
-use crate::slot::ballot;
 use mencius_base::{Ballot, Members, Message, Outbox, Refusal, Value};
 use mencius_server::Server;
 use std::alloc::Global;
@@ -50,10 +46,6 @@ fn accepted(from: u8, to: u8, inst: u32, ballot: Ballot) -> Message {
         inst,
         ballot,
     }
-}
-
-fn prepare(from: u8, inst: u32, ballot: Ballot) -> Message {
-    Message::Prepare { from, inst, ballot }
 }
 
 fn learn(from: u8, inst: u32, value: Value) -> Message {
@@ -145,59 +137,6 @@ fn suggestion_heard_with_little_room(rt: HostRuntime) {
     let sent = [skip(0, 0, 3), accepted(0, 2, 2, Ballot::OWNER)];
     assert_sent(&rt, &out, 0, &sent);
     assert_front(&rt, &zero, 3);
-}
-
-// The server that server 1 suspects, the limit of a new outbox, the result, and the number of the ballot that is then
-// prepared. A refused suspicion prepares none.
-type Suspicion = (u8, u32, Result<(), Refusal>, Option<u32>);
-
-fn take_suspicion(rt: &impl Abort, alloc: Global, server: &mut Server, row: &Suspicion) {
-    let (suspected, limit, answer, prepared) = *row;
-    let mut out = Outbox::new(alloc, limit);
-    assert_suspects(rt, server, suspected, &mut out, answer);
-    match prepared {
-        Some(number) => assert_prepared(rt, &out, number),
-        None => assert!(rt; out.is_empty()),
-    }
-}
-
-// Checks that server 1 prepares the ballot with this number at 0, 3, 6 and 9, and sends no other message.
-fn assert_prepared(rt: &impl Abort, out: &Outbox, number: u32) {
-    let ballot = ballot(rt, number);
-    let sends = [
-        prepare(1, 0, ballot),
-        prepare(1, 3, ballot),
-        prepare(1, 6, ballot),
-        prepare(1, 9, ballot),
-    ];
-    assert_sent(rt, out, 0, &sends);
-}
-
-const EARLY: [Suspicion; 2] = [
-    (1, 0, Err(Refusal::SelfSuspect), None),
-    (2, 0, Err(Refusal::NothingToRevoke), None),
-];
-
-const LATE: [Suspicion; 3] = [
-    (0, 4, Ok(()), Some(4)),
-    (0, 3, Err(Refusal::MessagesFull), None),
-    (0, 4, Ok(()), Some(7)),
-];
-
-fn take_suspicions(rt: &impl Abort, alloc: Global, server: &mut Server, rows: &[Suspicion]) {
-    for row in rows {
-        take_suspicion(rt, alloc, server, row);
-    }
-}
-
-#[test]
-fn suspicions(rt: HostRuntime) {
-    let mut one = new_server(&rt, rt.alloc(), 1);
-    take_suspicions(&rt, rt.alloc(), &mut one, &EARLY);
-    let mut out = Outbox::new(rt.alloc(), 3);
-    submit_all(&rt, &mut one, &mut out, &[0, 1, 2]);
-    take_suspicions(&rt, rt.alloc(), &mut one, &LATE);
-    assert_front(&rt, &one, 10);
 }
 
 // Teaches a no-op at an instance, and checks the ticket that then waits.
