@@ -20,7 +20,7 @@ use Rattle.clap.proofs.WalkLemmas.{first_value-rows}
 use Rattle.mencius_base.specs.Command.{is_name}
 use Rattle.mencius_format.specs.Words.{number_of}
 use Rattle.mencius_command_line.specs.CommandLine.{TaskState, task_in, asked_replay, asked_clients, asked_draw, asked_judge, asked_run, faults, program, with_joined_key}
-use Rattle.mencius_command_line.specs.Flags.{has_flag}
+use Rattle.mencius_command_line.specs.Options.{has_flag}
 use Rattle.mencius_draw.specs.declared.options.Scheme.TheVariants.{Both, Light, Dark}
 
 -- ---- flags and tasks that were found

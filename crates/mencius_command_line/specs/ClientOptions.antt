@@ -1,27 +1,12 @@
 -- The options of the task `judge` for a log that clients saw.
-use Rattle.std.specs.Prelude.{ℕ, ◌&&◌, ◌||◌, Bool, false, not, if◌then◌else◌, List, [], ◌∷◌, Option, Some, None, Result, Ok, Err, codes, is_some}
-use Rattle.clap.specs.Words.{Kinds, Row, Rule, Text, first_of, new_rule}
-use Rattle.clap.specs.declared.builder.action.ArgAction.TheVariants.{Set, SetTrue}
+use Rattle.std.specs.Prelude.{ℕ, ◌&&◌, ◌||◌, Bool, not, if◌then◌else◌, List, [], ◌∷◌, Option, Some, None, Result, Ok, Err, codes, is_some}
+use Rattle.clap.specs.Words.{Kinds, Row, Text, first_of}
 use Rattle.clap.specs.declared.error.kind.ErrorKind.TheVariants as kind
 use Rattle.mencius_io.specs.declared.fault.IoFault.{IoFault}
 use Rattle.mencius_format.specs.ValuesOrFaults.{value_or_fault}
 use Rattle.mencius_format.specs.Words.{is_u32, number_of}
-use Rattle.mencius_command_line.specs.Flags.{has_flag}
+use Rattle.mencius_command_line.specs.Options.{has_flag}
 use Rattle.mencius_command_line.specs.declared.client_options.ClientOptions.{ClientOptions}
-
--- ---- the options
-
--- the flag `--clients`
-abbrev pub clients_option : Rule
-clients_option = record (new_rule (codes "clients")) { long = Some (codes "clients"); action = Some SetTrue }
-
--- the option `--most N`
-abbrev pub most_option : Rule
-most_option = record (new_rule (codes "most")) { long = Some (codes "most"); action = Some Set; value_names = 1 }
-
--- the flag `--order`
-abbrev pub order_option : Rule
-order_option = record (new_rule (codes "order")) { long = Some (codes "order"); action = Some SetTrue }
 
 -- ---- the requested judgement
 

@@ -4,14 +4,13 @@ use Rattle.std.specs.List.{list_all}
 use Rattle.std.specs.Str.{bytes_eq, is_utf8}
 use Rattle.std.specs.Str.Lossy.{utf8_lossy}
 use Rattle.clap.specs.Kinds.{or_else}
-use Rattle.clap.specs.Words.{App, Kinds, Row, Rule, Text, fault_of, first_of, new_app, new_rule, subcommand_of, with_rule, with_subcommand}
-use Rattle.clap.specs.declared.builder.action.ArgAction.TheVariants.{Set, SetTrue}
+use Rattle.clap.specs.Words.{App, Kinds, Row, Text, fault_of, first_of, new_app, subcommand_of, with_rule, with_subcommand}
 use Rattle.clap.specs.declared.error.kind.ErrorKind.TheVariants as kind
 use Rattle.mencius_base.specs.Command.{is_key_length, is_name}
 use Rattle.mencius_draw.specs.declared.options.Options.{Options}
-use Rattle.mencius_command_line.specs.ClientOptions.{client_faults, client_options_of, clients_option, has_client_option, most_option, order_option}
+use Rattle.mencius_command_line.specs.ClientOptions.{client_faults, client_options_of, has_client_option}
 use Rattle.mencius_command_line.specs.DrawOptions.{draw_task, options_of, part_faults}
-use Rattle.mencius_command_line.specs.Flags.{has_flag, json_option}
+use Rattle.mencius_command_line.specs.Options.{flag, has_flag, valued}
 use Rattle.mencius_command_line.specs.TraceOptions.{trace_faults, trace_options_of, trace_task}
 use Rattle.mencius_command_line.specs.declared.client_options.ClientOptions.{ClientOptions}
 use Rattle.mencius_command_line.specs.declared.line.Task.{Task}
@@ -26,44 +25,25 @@ without_tasks =
     let named = new_app (codes "mencius") in
     record named { top = record named.top { subcommand_required = true; has_version = true } }
 
--- the flag `--strict`
-abbrev pub strict_option : Rule
-strict_option = record (new_rule (codes "strict")) { long = Some (codes "strict"); action = Some SetTrue }
-
--- the flag `--journal`
-abbrev pub journal_option : Rule
-journal_option = record (new_rule (codes "journal")) { long = Some (codes "journal"); action = Some SetTrue }
-
--- the flag `--observations`
-abbrev pub observations_option : Rule
-observations_option =
-    record (new_rule (codes "observations")) { long = Some (codes "observations"); action = Some SetTrue }
-
--- the option `--lookup KEY`
-abbrev pub lookup_option : Rule
-lookup_option = record (new_rule (codes "lookup")) { long = Some (codes "lookup"); action = Some Set; value_names = 1 }
-
 -- the task `replay`, with its option
 abbrev pub replay_task : App
-replay_task = with_rule (new_app (codes "replay")) strict_option
+replay_task = with_rule (new_app (codes "replay")) (flag (codes "strict"))
 
 -- the task `check`, which has no options
 abbrev pub check_task : App
 check_task = new_app (codes "check")
 
--- the flag `--brief`
-abbrev pub brief_option : Rule
-brief_option = record (new_rule (codes "brief")) { long = Some (codes "brief"); action = Some SetTrue }
-
 -- the task `judge`, with its options
 abbrev pub judge_task : App
 judge_task =
-    with_rule (with_rule (with_rule (with_rule (with_rule (new_app (codes "judge")) brief_option) json_option)
-    clients_option) most_option) order_option
+    with_rule (with_rule (with_rule (with_rule (with_rule (new_app (codes "judge")) (flag (codes "brief")))
+    (flag (codes "json"))) (flag (codes "clients"))) (valued (codes "most"))) (flag (codes "order"))
 
 -- the task `run`, with its options
 abbrev pub run_task : App
-run_task = with_rule (with_rule (with_rule (new_app (codes "run")) journal_option) observations_option) lookup_option
+run_task =
+    with_rule (with_rule (with_rule (new_app (codes "run")) (flag (codes "journal"))) (flag (codes "observations")))
+    (valued (codes "lookup"))
 
 -- the program with the tasks `replay`, `trace`, `draw` and `check`
 abbrev pub with_replays : App

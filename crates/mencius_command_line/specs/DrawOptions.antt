@@ -1,7 +1,6 @@
 -- The task `draw`, its options, and the picture that they request.
 use Rattle.std.specs.Prelude.{ℕ, ◌-◌, ◌^◌, Bool, true, false, List, [], ◌∷◌, Option, Some, None, Result, Ok, Err, codes}
-use Rattle.clap.specs.Words.{App, Kinds, Row, Rule, Text, first_of, new_app, new_rule, with_rule}
-use Rattle.clap.specs.declared.builder.action.ArgAction.TheVariants.{Set, SetTrue}
+use Rattle.clap.specs.Words.{App, Kinds, Row, Text, first_of, new_app, with_rule}
 use Rattle.clap.specs.declared.error.kind.ErrorKind.TheVariants as kind
 use Rattle.mencius_io.specs.declared.fault.IoFault.{IoFault}
 use Rattle.mencius_format.specs.ValuesOrFaults.{value_or_fault}
@@ -9,27 +8,15 @@ use Rattle.mencius_format.specs.Words.{is_u32, number_of}
 use Rattle.mencius_draw.specs.declared.options.Options.{Options}
 use Rattle.mencius_draw.specs.declared.options.Scheme.{Scheme}
 use Rattle.mencius_draw.specs.declared.options.Scheme.TheVariants.{Both, Light, Dark}
-use Rattle.mencius_command_line.specs.Flags.{has_flag}
+use Rattle.mencius_command_line.specs.Options.{flag, has_flag, valued}
 
 -- ---- the task
-
--- an option `--from EVENT` or `--to EVENT`, whose value is the place of an event
-abbrev pub place_option : Text → Rule
-place_option name = record (new_rule name) { long = Some name; action = Some Set; value_names = 1 }
-
--- the flag `--dark`
-abbrev pub dark_option : Rule
-dark_option = record (new_rule (codes "dark")) { long = Some (codes "dark"); action = Some SetTrue }
-
--- the flag `--light`
-abbrev pub light_option : Rule
-light_option = record (new_rule (codes "light")) { long = Some (codes "light"); action = Some SetTrue }
 
 -- the task `draw`, with its options
 abbrev pub draw_task : App
 draw_task =
-    with_rule (with_rule (with_rule (with_rule (new_app (codes "draw")) (place_option (codes "from")))
-    (place_option (codes "to"))) dark_option) light_option
+    with_rule (with_rule (with_rule (with_rule (new_app (codes "draw")) (valued (codes "from"))) (valued (codes "to")))
+    (flag (codes "dark"))) (flag (codes "light"))
 
 -- ---- the requested picture
 

@@ -1,4 +1,4 @@
-pub mod Flags
+pub mod Options
 pub mod ClientOptions
 pub mod DrawOptions
 pub mod TraceOptions

@@ -1,27 +1,22 @@
 -- The task `trace` and its options.
 use Rattle.std.specs.Prelude.{ℕ, Bool, List, [], ◌∷◌, Option, Some, None, Result, Ok, Err, codes}
-use Rattle.clap.specs.Words.{App, Kinds, Row, Rule, Text, first_of, new_app, new_rule, with_rule}
-use Rattle.clap.specs.declared.builder.action.ArgAction.TheVariants.{Set}
+use Rattle.clap.specs.Words.{App, Kinds, Row, Text, first_of, new_app, with_rule}
 use Rattle.clap.specs.declared.error.kind.ErrorKind.TheVariants as kind
 use Rattle.mencius_base.specs.declared.command.CommandId.{CommandId}
 use Rattle.mencius_io.specs.declared.fault.IoFault.{IoFault}
 use Rattle.mencius_format.specs.Grammar.{id_of, is_id_within}
 use Rattle.mencius_format.specs.ValuesOrFaults.{map_ok, value_or_fault}
 use Rattle.mencius_format.specs.Words.{is_u8, is_u32, number_of}
-use Rattle.mencius_command_line.specs.Flags.{has_flag, json_option}
+use Rattle.mencius_command_line.specs.Options.{flag, has_flag, valued}
 use Rattle.mencius_command_line.specs.declared.trace_options.TraceOptions.{TraceOptions}
 
 -- ---- the task
 
--- an option with a value
-abbrev pub value_option : Text → Rule
-value_option name = record (new_rule name) { long = Some name; action = Some Set; value_names = 1 }
-
 -- the task `trace`, with its options
 abbrev pub trace_task : App
 trace_task =
-    with_rule (with_rule (with_rule (with_rule (new_app (codes "trace")) json_option) (value_option (codes "instance")))
-    (value_option (codes "command"))) (value_option (codes "server"))
+    with_rule (with_rule (with_rule (with_rule (new_app (codes "trace")) (flag (codes "json"))) (valued (codes "instance")))
+    (valued (codes "command"))) (valued (codes "server"))
 
 -- ---- the requested trace
 

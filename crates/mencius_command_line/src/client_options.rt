@@ -1,12 +1,12 @@
 //! Reads the options of the task `judge` for a log that clients saw.
 
 ghost use Rattle.std.specs.Prelude.{◌≡◌, IfOk, Ok, Some, codes, false, is_some, true};
-ghost use Rattle.clap.specs.Words.{FailsBy, first_of, found_of, kind_of, rows_of, rule_of};
-ghost use Rattle.mencius_command_line.specs.ClientOptions.{client_faults, client_options_of, clients_option, fit_together, has_client_option, most_faults, most_in, most_option, order_option};
+ghost use Rattle.clap.specs.Words.{FailsBy, first_of, found_of, kind_of, rows_of};
+ghost use Rattle.mencius_command_line.specs.ClientOptions.{client_faults, client_options_of, fit_together, has_client_option, most_faults, most_in};
 
 use crate::line::{has_flag, judge_command};
 use clap::error::ErrorKind;
-use clap::{Arg, ArgAction, ArgMatches, Error};
+use clap::{ArgMatches, Error};
 use mencius_format::parse_u32;
 use std::alloc::{AllocError, Global};
 
@@ -25,37 +25,6 @@ const MOST_RULE: &str = "the number of configurations is a number, 0 to 42949672
 
 const OPTIONS_RULE: &str =
     "'--most' and '--order' need '--clients', which cannot be used with '--json'";
-
-/// Builds the option `--clients`.
-pub(crate) fn clients_option<'a>(alloc: Global) -> Arg<'a>
-    ensures rule { rule_of result ≡ clients_option }
-    ensures local { result.global ≡ false }
-{
-    Arg::new(alloc, "clients")
-        .long("clients")
-        .action(ArgAction::SetTrue)
-}
-
-/// Builds the option `--most N`.
-pub(crate) fn most_option<'a>(alloc: Global) -> Arg<'a>
-    ensures rule { rule_of result ≡ most_option }
-    ensures local { result.global ≡ false }
-{
-    Arg::new(alloc, "most")
-        .long("most")
-        .action(ArgAction::Set)
-        .value_name("N")
-}
-
-/// Builds the option `--order`.
-pub(crate) fn order_option<'a>(alloc: Global) -> Arg<'a>
-    ensures rule { rule_of result ≡ order_option }
-    ensures local { result.global ≡ false }
-{
-    Arg::new(alloc, "order")
-        .long("order")
-        .action(ArgAction::SetTrue)
-}
 
 /// Returns whether one of these options was given.
 pub(crate) fn has_client_option(matches: &ArgMatches) -> bool

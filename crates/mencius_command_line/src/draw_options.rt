@@ -1,13 +1,14 @@
 //! Reads the options of the task `draw`. They select the part of a schedule that is drawn, and its colours.
 
-ghost use Rattle.std.specs.Prelude.{◌≡◌, IfOk, Ok, Some, false};
-ghost use Rattle.clap.specs.declared.builder.command.Command.TheViews.{out-Command as fields_of};
-ghost use Rattle.clap.specs.Words.{FailsBy, app_of, first_of, found_of, kind_of, rows_of, rule_of};
-ghost use Rattle.mencius_command_line.specs.DrawOptions.{dark_option, draw_task, light_option, options_of, part_faults, place_faults, place_in, place_option, scheme_by};
+ghost use Rattle.std.specs.Prelude.{◌≡◌, IfOk, Ok, Some};
+ghost use Rattle.clap.specs.Words.{FailsBy, first_of, found_of, kind_of, rows_of};
+ghost use Rattle.mencius_command_line.specs.DrawOptions.{draw_task, options_of, part_faults, place_faults, place_in, scheme_by};
+ghost use Rattle.mencius_command_line.specs.Options.{IsTask};
 
 use crate::line::has_flag;
+use crate::tasks::{new_task, with_flag, with_value};
 use clap::error::ErrorKind;
-use clap::{Arg, ArgAction, ArgMatches, Command, Error};
+use clap::{ArgMatches, Command, Error};
 use mencius_draw::{Options, Scheme};
 use mencius_format::parse_u32;
 use std::alloc::{AllocError, Global};
@@ -16,48 +17,15 @@ const DRAW_USAGE: &str = "mencius draw [OPTIONS] < SCENARIO";
 
 const PLACE_RULE: &str = "the place of an event is a number, 0 to 4294967295";
 
-// Builds an option whose value is the place of an event.
-fn place_option<'a>(alloc: Global, name: &'a str) -> Arg<'a>
-    ensures rule { rule_of result ≡ place_option name.now }
-    ensures local { result.global ≡ false }
-{
-    Arg::new(alloc, name)
-        .long(name)
-        .action(ArgAction::Set)
-        .value_name("EVENT")
-}
-
-// Builds the option `--dark`.
-fn dark_option<'a>(alloc: Global) -> Arg<'a>
-    ensures rule { rule_of result ≡ dark_option }
-    ensures local { result.global ≡ false }
-{
-    Arg::new(alloc, "dark")
-        .long("dark")
-        .action(ArgAction::SetTrue)
-}
-
-// Builds the option `--light`.
-fn light_option<'a>(alloc: Global) -> Arg<'a>
-    ensures rule { rule_of result ≡ light_option }
-    ensures local { result.global ≡ false }
-{
-    Arg::new(alloc, "light")
-        .long("light")
-        .action(ArgAction::SetTrue)
-}
-
 /// Builds the task `draw`, with its options.
 pub(crate) fn draw_command<'a>(alloc: Global) -> Result<Command<'a>, AllocError>
-    ensures draw { IfOk result (λ command. app_of command ≡ draw_task) }
-    ensures local { IfOk result (λ command. (fields_of command).has_globals ≡ false) }
+    ensures { IfOk result (IsTask draw_task) }
 {
-    Command::new(alloc, "draw")
-        .override_usage(DRAW_USAGE)
-        .arg(place_option(alloc, "from"))?
-        .arg(place_option(alloc, "to"))?
-        .arg(dark_option(alloc))?
-        .arg(light_option(alloc))
+    let task = new_task(alloc, "draw", DRAW_USAGE);
+    let task = with_value(alloc, task, "from", "EVENT")?;
+    let task = with_value(alloc, task, "to", "EVENT")?;
+    let task = with_flag(alloc, task, "dark")?;
+    with_flag(alloc, task, "light")
 }
 
 // Returns the colours that the flags request. With both flags, or with neither, these are the colours of both schemes.

@@ -6,6 +6,7 @@ mod client_options;
 mod draw_options;
 mod line;
 mod pages;
+mod tasks;
 mod trace_options;
 
 pub use arguments::{are_texts, read_arguments};

@@ -1,18 +1,16 @@
 //! Reads the words after the program's name.
 
-ghost use Rattle.std.specs.Prelude.{◌≡◌, ◌≤◌, ◌∷◌, false, IfErr, IfOk, Some, codes, length, map, option_copied, option_map, string_bytes};
-ghost use Rattle.clap.specs.declared.builder.command.Command.TheViews.{out-Command as fields_of};
-ghost use Rattle.clap.specs.Words.{App, FailsBy, HasKind, app_of, first_of, found_of, kind_of, rows_of, rule_of, subcommand_rows_of, with_subcommand};
-ghost use Rattle.mencius_command_line.specs.CommandLine.{task_in, task_by_name, judge_by, task_state, bad_key_faults, brief_option, faults, check_task, is_key, journal_option, judge_task, lookup_option, observations_option, program, replay_task, run_task, strict_option, value_faults, with_joined_key, with_replays, without_tasks, words_read};
-ghost use Rattle.mencius_command_line.specs.Flags.{has_flag, json_option};
+ghost use Rattle.std.specs.Prelude.{◌≡◌, ◌≤◌, ◌∷◌, IfErr, IfOk, Some, codes, length, map, option_copied, option_map, string_bytes};
+ghost use Rattle.clap.specs.Words.{App, FailsBy, HasKind, app_of, first_of, found_of, kind_of, rows_of, subcommand_rows_of, with_subcommand};
+ghost use Rattle.mencius_command_line.specs.CommandLine.{task_in, task_by_name, judge_by, task_state, bad_key_faults, faults, is_key, judge_task, program, replay_task, run_task, value_faults, with_joined_key, with_replays, without_tasks, words_read};
+ghost use Rattle.mencius_command_line.specs.Options.{IsTask, has_flag};
 
-use crate::client_options::{
-    ClientOptions, client_options_of, clients_option, has_client_option, most_option, order_option,
-};
+use crate::client_options::{ClientOptions, client_options_of, has_client_option};
 use crate::draw_options::{draw_command, options_of};
+use crate::tasks::{new_task, with_flag, with_value};
 use crate::trace_options::{TraceOptions, trace_command, trace_options_of};
 use clap::error::ErrorKind;
-use clap::{Arg, ArgAction, ArgMatches, Command, Error};
+use clap::{ArgMatches, Command, Error};
 use mencius_base::{MOST_KEY_BYTES, is_name};
 use mencius_draw::Options;
 use std::alloc::{AllocError, Global};
@@ -64,109 +62,33 @@ const JUDGE_USAGE: &str = "mencius judge [OPTIONS] < LOG";
 
 const RUN_USAGE: &str = "mencius run [OPTIONS] < SCENARIO";
 
-// Builds the option `--journal`.
-fn journal_option<'a>(alloc: Global) -> Arg<'a>
-    ensures rule { rule_of result ≡ journal_option }
-    ensures local { result.global ≡ false }
-{
-    Arg::new(alloc, "journal")
-        .long("journal")
-        .action(ArgAction::SetTrue)
-}
-
-// Builds the option `--observations`.
-fn observations_option<'a>(alloc: Global) -> Arg<'a>
-    ensures rule { rule_of result ≡ observations_option }
-    ensures local { result.global ≡ false }
-{
-    Arg::new(alloc, "observations")
-        .long("observations")
-        .action(ArgAction::SetTrue)
-}
-
-// Builds the option `--lookup KEY`.
-fn lookup_option<'a>(alloc: Global) -> Arg<'a>
-    ensures rule { rule_of result ≡ lookup_option }
-    ensures local { result.global ≡ false }
-{
-    Arg::new(alloc, "lookup")
-        .long("lookup")
-        .action(ArgAction::Set)
-        .value_name("KEY")
-}
-
 // Builds the task `run`, with its options.
 fn run_command<'a>(alloc: Global) -> Result<Command<'a>, AllocError>
-    ensures run { IfOk result (λ command. app_of command ≡ run_task) }
-    ensures local { IfOk result (λ command. (fields_of command).has_globals ≡ false) }
+    ensures { IfOk result (IsTask run_task) }
 {
-    Command::new(alloc, "run")
-        .override_usage(RUN_USAGE)
-        .arg(journal_option(alloc))?
-        .arg(observations_option(alloc))?
-        .arg(lookup_option(alloc))
-}
-
-// Builds the option `--strict`.
-fn strict_option<'a>(alloc: Global) -> Arg<'a>
-    ensures rule { rule_of result ≡ strict_option }
-    ensures local { result.global ≡ false }
-{
-    Arg::new(alloc, "strict")
-        .long("strict")
-        .action(ArgAction::SetTrue)
+    let task = new_task(alloc, "run", RUN_USAGE);
+    let task = with_flag(alloc, task, "journal")?;
+    let task = with_flag(alloc, task, "observations")?;
+    with_value(alloc, task, "lookup", "KEY")
 }
 
 // Builds the task `replay`, with its option.
 fn replay_command<'a>(alloc: Global) -> Result<Command<'a>, AllocError>
-    ensures replay { IfOk result (λ command. app_of command ≡ replay_task) }
-    ensures local { IfOk result (λ command. (fields_of command).has_globals ≡ false) }
+    ensures { IfOk result (IsTask replay_task) }
 {
-    Command::new(alloc, "replay")
-        .override_usage(REPLAY_USAGE)
-        .arg(strict_option(alloc))
-}
-
-// Builds the task `check`.
-fn check_command<'a>(alloc: Global) -> Command<'a>
-    ensures check { app_of result ≡ check_task }
-    ensures local { (fields_of result).has_globals ≡ false }
-{
-    Command::new(alloc, "check").override_usage(CHECK_USAGE)
-}
-
-// Builds the option `--brief`.
-fn brief_option<'a>(alloc: Global) -> Arg<'a>
-    ensures rule { rule_of result ≡ brief_option }
-    ensures local { result.global ≡ false }
-{
-    Arg::new(alloc, "brief")
-        .long("brief")
-        .action(ArgAction::SetTrue)
-}
-
-/// Builds the option `--json`.
-pub(crate) fn json_option<'a>(alloc: Global) -> Arg<'a>
-    ensures rule { rule_of result ≡ json_option }
-    ensures local { result.global ≡ false }
-{
-    Arg::new(alloc, "json")
-        .long("json")
-        .action(ArgAction::SetTrue)
+    with_flag(alloc, new_task(alloc, "replay", REPLAY_USAGE), "strict")
 }
 
 /// Builds the task `judge`, with its options.
 pub(crate) fn judge_command<'a>(alloc: Global) -> Result<Command<'a>, AllocError>
-    ensures judge { IfOk result (λ command. app_of command ≡ judge_task) }
-    ensures local { IfOk result (λ command. (fields_of command).has_globals ≡ false) }
+    ensures { IfOk result (IsTask judge_task) }
 {
-    Command::new(alloc, "judge")
-        .override_usage(JUDGE_USAGE)
-        .arg(brief_option(alloc))?
-        .arg(json_option(alloc))?
-        .arg(clients_option(alloc))?
-        .arg(most_option(alloc))?
-        .arg(order_option(alloc))
+    let task = new_task(alloc, "judge", JUDGE_USAGE);
+    let task = with_flag(alloc, task, "brief")?;
+    let task = with_flag(alloc, task, "json")?;
+    let task = with_flag(alloc, task, "clients")?;
+    let task = with_value(alloc, task, "most", "N")?;
+    with_flag(alloc, task, "order")
 }
 
 // Builds the program without its tasks.
@@ -183,8 +105,7 @@ fn with_task<'a>(
     program: Command<'a>,
     task: Result<Command<'a>, AllocError>,
 ) -> Result<Command<'a>, AllocError>
-    ensures { (a : App) → IfOk task.entry (λ added. app_of added ≡ a)
-        → IfOk task.entry (λ added. (fields_of added).has_globals ≡ false)
+    ensures { (a : App) → IfOk task.entry (IsTask a)
         → IfOk result (λ command. app_of command ≡ with_subcommand (app_of program.entry) a.top) }
 {
     program.subcommand(task?)
@@ -197,7 +118,7 @@ fn with_replays<'a>(alloc: Global) -> Result<Command<'a>, AllocError>
     let program = with_task(without_tasks(alloc), replay_command(alloc))?;
     let program = with_task(program, trace_command(alloc))?;
     let program = with_task(program, draw_command(alloc))?;
-    program.subcommand(check_command(alloc))
+    program.subcommand(new_task(alloc, "check", CHECK_USAGE))
 }
 
 // Builds the program with all its tasks.

@@ -1,13 +1,14 @@
 //! Reads the options of the task `trace`. They choose the form of the trace and its lines.
 
-ghost use Rattle.std.specs.Prelude.{◌≡◌, IfOk, Ok, Some, codes, false};
-ghost use Rattle.clap.specs.declared.builder.command.Command.TheViews.{out-Command as fields_of};
-ghost use Rattle.clap.specs.Words.{FailsBy, app_of, first_of, found_of, kind_of, rows_of, rule_of};
-ghost use Rattle.mencius_command_line.specs.TraceOptions.{command_in, instance_in, server_in, trace_faults, trace_options_of, trace_task, value_option, word_faults};
+ghost use Rattle.std.specs.Prelude.{◌≡◌, IfOk, Ok, Some, codes};
+ghost use Rattle.clap.specs.Words.{FailsBy, first_of, found_of, kind_of, rows_of};
+ghost use Rattle.mencius_command_line.specs.Options.{IsTask};
+ghost use Rattle.mencius_command_line.specs.TraceOptions.{command_in, instance_in, server_in, trace_faults, trace_options_of, trace_task, word_faults};
 
-use crate::line::{has_flag, json_option};
+use crate::line::has_flag;
+use crate::tasks::{new_task, with_flag, with_value};
 use clap::error::ErrorKind;
-use clap::{Arg, ArgAction, ArgMatches, Command, Error};
+use clap::{ArgMatches, Command, Error};
 use mencius_base::CommandId;
 use mencius_format::{parse_id, parse_u8, parse_u32};
 use std::alloc::{AllocError, Global};
@@ -34,28 +35,15 @@ const COMMAND_RULE: &str =
 
 const SERVER_RULE: &str = "a server is a number, 0 to 255";
 
-// Builds an option with a value.
-fn value_option<'a>(alloc: Global, name: &'a str, value: &'a str) -> Arg<'a>
-    ensures rule { rule_of result ≡ value_option name.now }
-    ensures local { result.global ≡ false }
-{
-    Arg::new(alloc, name)
-        .long(name)
-        .action(ArgAction::Set)
-        .value_name(value)
-}
-
 /// Builds the task `trace`, with its options.
 pub(crate) fn trace_command<'a>(alloc: Global) -> Result<Command<'a>, AllocError>
-    ensures trace { IfOk result (λ command. app_of command ≡ trace_task) }
-    ensures local { IfOk result (λ command. (fields_of command).has_globals ≡ false) }
+    ensures { IfOk result (IsTask trace_task) }
 {
-    Command::new(alloc, "trace")
-        .override_usage(TRACE_USAGE)
-        .arg(json_option(alloc))?
-        .arg(value_option(alloc, "instance", "I"))?
-        .arg(value_option(alloc, "command", "ID"))?
-        .arg(value_option(alloc, "server", "S"))
+    let task = new_task(alloc, "trace", TRACE_USAGE);
+    let task = with_flag(alloc, task, "json")?;
+    let task = with_value(alloc, task, "instance", "I")?;
+    let task = with_value(alloc, task, "command", "ID")?;
+    with_value(alloc, task, "server", "S")
 }
 
 // Builds the error for a word that is not the value of its option. It has the form of `clap`'s own errors, and the usage

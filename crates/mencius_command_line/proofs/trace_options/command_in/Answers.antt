@@ -1,4 +1,4 @@
-use Rattle.std.proofs.Common.{◌∙◌, ℕ, Option, Result, Some, ap, codes, inl, inr, subst, sym}
+use Rattle.std.proofs.Common.{◌∙◌, Option, Result, Some, ap, codes, inl, inr, subst, sym}
 use Rattle.clap.specs.Words.{HasKind, found_of}
 use Rattle.clap.proofs.WalkLemmas.{first_value-rows}
 use Rattle.mencius_base.specs.declared.command.CommandId.{CommandId}
