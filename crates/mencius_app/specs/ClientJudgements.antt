@@ -6,7 +6,8 @@ use Rattle.mencius_io.specs.declared.fault.IoFault.TheVariants.{BadLimit}
 use Rattle.mencius_log.specs.BadLines.{ExplainsLine}
 use Rattle.mencius_clients.specs.declared.client_verdict.ClientVerdict.{ClientVerdict}
 use Rattle.mencius_clients.specs.declared.client_verdict.ClientVerdict.TheVariants.{Linearizable, Unjudged, NotLinearizable, Broken, Undecided, Unconfirmed}
-use Rattle.mencius_clients.specs.ClientLines.{client_verdict_line, order_lines}
+use Rattle.mencius_clients.specs.ClientJson.{client_json}
+use Rattle.mencius_clients.specs.ClientLines.{client_explanation, client_verdict_line, order_lines}
 use Rattle.mencius_clients.specs.ClientVerdicts.{IsVerdictFor}
 use Rattle.mencius_clients.specs.ReadLogs.{IsBadAt}
 use Rattle.mencius_command_line.specs.declared.client_options.ClientOptions.{ClientOptions}
@@ -16,21 +17,27 @@ use Rattle.mencius_app.specs.Tasks.{Task}
 abbrev pub order_text : ClientVerdict → List ℕ
 order_text (Linearizable counts order) = order_lines order.items
 order_text (Unjudged counts) = []
-order_text (NotLinearizable number key) = []
+order_text (NotLinearizable number key quotes fitting) = []
 order_text (Broken number violation) = []
 order_text (Undecided number key cause) = []
 order_text Unconfirmed = []
 
--- the line of the verdict, and then the order if it was requested
-abbrev pub client_text : Bool → ClientVerdict → List ℕ
-client_text with_order verdict =
-    client_verdict_line verdict ++ (if with_order then order_text verdict else [])
+-- the text that follows the line of a verdict: the lines that explain it, unless it is to be brief, and the order if it
+-- was requested
+abbrev pub further_text : ClientOptions → ClientVerdict → List ℕ
+further_text options verdict =
+    (if options.is_brief then [] else client_explanation verdict) ++ (if options.with_order then order_text verdict else [])
+
+-- the line of the verdict and the text after it, or one JSON object
+abbrev pub client_text : ClientOptions → ClientVerdict → List ℕ
+client_text options verdict =
+    if options.is_json then client_json options.with_order verdict else client_verdict_line verdict ++ further_text options verdict
 
 -- whether a verdict says that the log is linearizable
 abbrev pub is_linearizable : ClientVerdict → Bool
 is_linearizable (Linearizable counts order) = true
 is_linearizable (Unjudged counts) = false
-is_linearizable (NotLinearizable number key) = false
+is_linearizable (NotLinearizable number key quotes fitting) = false
 is_linearizable (Broken number violation) = false
 is_linearizable (Undecided number key cause) = false
 is_linearizable Unconfirmed = false
@@ -41,7 +48,7 @@ pub record IsClientJudgementOf (options : ClientOptions) (known : Option (List �
     : Type 0 where
   pub verdict : ClientVerdict
   pub on : (bytes : List ℕ) × IfSome known (λ all. all ≡ bytes) × IsVerdictFor bytes options.most verdict
-  pub is : text ≡ client_text options.with_order verdict
+  pub is : text ≡ client_text options verdict
   pub says : kept ≡ is_linearizable verdict
 
 -- a line of the bytes has this fault, or there are too many bytes

@@ -47,7 +47,7 @@ whole_at log line o e =
           ∙ append_assoc (reverse r.0) (o ∷ []) (reverse (take line log)),
     )
 
-pub part_more : (log : List Observation) (line : ℕ) (o : Observation) → slice_get log line ≡ Some o
+pub part_more : {A : Type 0} (log : List A) (line : ℕ) (o : A) → slice_get log line ≡ Some o
     → reverse (take (line + 1) log) ≡ o ∷ reverse (take line log)
 part_more log line o e = ap reverse (more_taken log line o e) ∙ reverse-append (take line log) (o ∷ [])
 

@@ -16,6 +16,8 @@ pub mod ReadingLines
 pub mod Replied
 pub mod LineCommands
 pub mod LineNumbers
+pub mod KeyQuotes
+pub mod KeyParts
 pub mod Verdicts
 pub mod Counting
 pub mod FoundCommands

@@ -15,7 +15,7 @@ use Rattle.mencius_clients.proofs.Explaining.{split_log}
 
 -- ---- a numbered log splits at a line
 
-record IsNumberedAt (numbered : NumberedLog) (o : Observation) (n : ℕ) (w : Log) : Type 0 where
+record IsNumberedAt (numbered : NumberedLog) (o : Observation) (n : ℕ) (w : Log) (ns : List ℕ) : Type 0 where
   later : NumberedLog
   own : Quote
   earlier : NumberedLog
@@ -23,14 +23,15 @@ record IsNumberedAt (numbered : NumberedLog) (o : Observation) (n : ℕ) (w : Lo
   number : own.number ≡ n
   says : own.observation ≡ o
   rest : log_of earlier ≡ w
+  numbers : numbers_of earlier ≡ ns
 
 nothing : {A : Type 0} (xs : List A) (x : A) (ys : List A) → [] ≡ xs ++ x ∷ ys → ⊥
 nothing [] x ys e = cc
 nothing (y ∷ xs) x ys e = cc
 
-one_later : (q : Quote) (numbered : NumberedLog) (o : Observation) (n : ℕ) (w : Log) → IsNumberedAt numbered o n w
-    → IsNumberedAt (q ∷ numbered) o n w
-one_later q numbered o n w h = record {
+one_later : (q : Quote) (numbered : NumberedLog) (o : Observation) (n : ℕ) (w : Log) (ns : List ℕ)
+    → IsNumberedAt numbered o n w ns → IsNumberedAt (q ∷ numbered) o n w ns
+one_later q numbered o n w ns h = record {
   later = q ∷ h.later;
   own = h.own;
   earlier = h.earlier;
@@ -38,18 +39,19 @@ one_later q numbered o n w h = record {
   number = h.number;
   says = h.says;
   rest = h.rest;
+  numbers = h.numbers;
 }
 
 numbered_at : (numbered : NumberedLog) (later : Log) (o : Observation) (w : Log) (laters : List ℕ) (n : ℕ) (ns : List ℕ)
     → log_of numbered ≡ later ++ o ∷ w → numbers_of numbered ≡ laters ++ n ∷ ns → length later ≡ length laters
-    → IsNumberedAt numbered o n w
+    → IsNumberedAt numbered o n w ns
 numbered_at [] later o w laters n ns e f same = absurd (nothing later o w e)
 numbered_at (q ∷ qs) [] o w [] n ns e f same =
-    record { later = []; own = q; earlier = qs; are = refl; number = cc (f); says = cc (e); rest = cc (e) }
+    record { later = []; own = q; earlier = qs; are = refl; number = cc (f); says = cc (e); rest = cc (e); numbers = cc (f) }
 numbered_at (q ∷ qs) [] o w (m ∷ laters) n ns e f same = absurd (omega (arith, same))
 numbered_at (q ∷ qs) (x ∷ later) o w [] n ns e f same = absurd (omega (arith, same))
 numbered_at (q ∷ qs) (x ∷ later) o w (m ∷ laters) n ns e f same =
-    one_later q qs o n w (numbered_at qs later o w laters n ns (cc (e)) (cc (f)) (omega (arith, same)))
+    one_later q qs o n w ns (numbered_at qs later o w laters n ns (cc (e)) (cc (f)) (omega (arith, same)))
 
 -- ---- the lines split too
 
@@ -150,6 +152,7 @@ pub line_at : (bytes : List ℕ) (log : ClientLog) → IsLogOf bytes log → IsN
     (number : ℕ) → slice_get log.observations.items line ≡ Some o → slice_get log.numbers.items line ≡ Some number
     → (earlier : NumberedLog) × IsLineAt bytes number o earlier
     × (log_of earlier ≡ reverse (take line log.observations.items))
+    × (numbers_of earlier ≡ reverse (take line log.numbers.items))
 line_at bytes log h same line o number at here =
     let a = reversed_at log.observations.items line o at in
     let b = reversed_at log.numbers.items line number here in
@@ -171,4 +174,5 @@ line_at bytes log h same line o number at here =
         place = sym q.number ∙ s.place;
       },
       q.rest,
+      q.numbers,
     )

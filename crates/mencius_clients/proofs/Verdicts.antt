@@ -1,14 +1,17 @@
 -- A verdict by places in a log is right for the bytes of the log.
 use Rattle.std.proofs.Common.{◌≡◌, ◌<◌, ◌+◌, ℕ, List, ◌∷◌, Some, length, slice_get, take, reverse, refl, sym, subst, ap, ◌∙◌}
+use Rattle.std.specs.List.{All}
 use Rattle.std.proofs.lemmas.Option.{slice_get_within}
 use Rattle.mencius_base.specs.declared.command.CommandId.{CommandId}
+use Rattle.mencius_log.specs.declared.observation.Answer.{Answer}
 use Rattle.mencius_log.specs.declared.observation.Observation.{Observation}
 use Rattle.mencius_log.specs.declared.observation.Observation.TheVariants.{Reply}
 use Rattle.mencius_judge.specs.declared.violation.Violation.{Violation}
 use Rattle.mencius_judge.specs.Judged.{Breaks}
 use Rattle.mencius_judge.specs.Linearization.{IsLinearization}
 use Rattle.mencius_judge.specs.Log.{Log}
-use Rattle.mencius_judge.specs.Quotes.{log_of}
+use Rattle.mencius_judge.specs.declared.quote.Quote.{Quote}
+use Rattle.mencius_judge.specs.Quotes.{NumberedLog, log_of}
 use Rattle.mencius_clients.specs.declared.client_counts.ClientCounts.{ClientCounts}
 use Rattle.mencius_clients.specs.declared.client_log.ClientLog.{ClientLog}
 use Rattle.mencius_clients.specs.declared.client_verdict.GiveUp.{GiveUp}
@@ -18,7 +21,9 @@ use Rattle.mencius_clients.specs.ClientCounts.{AreClientCounts}
 use Rattle.mencius_clients.specs.ClientVerdicts.{HasCommandAt, IsBrokenAt, IsFirstWithout, IsGivenUp, IsKeyAt, IsLinearizedBy, IsOfKey, IsUndecidedAt, IsUnjudged}
 use Rattle.mencius_clients.specs.Explained.{AreManyWaiting, IsBroken, IsLinearizable, IsManyAt, IsReplyAt, heard, most_waiting}
 use Rattle.mencius_clients.specs.FirstLines.{IsFirstLine}
-use Rattle.mencius_clients.specs.ReadLogs.{IsLogOf, IsNumbered}
+use Rattle.mencius_clients.specs.Fitting.{Fits, about_key}
+use Rattle.mencius_clients.specs.KeyLines.{lines_about}
+use Rattle.mencius_clients.specs.ReadLogs.{IsLogOf, IsNumbered, numbers_of}
 use Rattle.mencius_clients.proofs.Explaining.{part_more}
 use Rattle.mencius_clients.proofs.LineCommands.{found_reply, some_at}
 use Rattle.mencius_clients.proofs.LineNumbers.{line_at}
@@ -74,9 +79,13 @@ broken_right log line v number same h here bytes is =
 
 pub first_right : (log : ClientLog) (line : ℕ) (number : ℕ) (key : List ℕ) → IsNumbered log
     → IsFirstLine log.observations.items (Found line) → IsKeyAt log.observations.items line key
-    → slice_get log.numbers.items line ≡ Some number → (bytes : List ℕ) → IsLogOf bytes log
-    → IsFirstWithout bytes number key
-first_right log line number key same h of_key here bytes is =
+    → slice_get log.numbers.items line ≡ Some number → (quotes : List Quote)
+    → ((n : NumberedLog) → log_of n ≡ reverse (take (line + 1) log.observations.items)
+    → numbers_of n ≡ reverse (take (line + 1) log.numbers.items) → quotes ≡ reverse (lines_about key n))
+    → (fitting : List Answer) → ((o : Observation) → slice_get log.observations.items line ≡ Some o
+    → All (Fits (about_key key (reverse (take line log.observations.items))) o) fitting)
+    → (bytes : List ℕ) → IsLogOf bytes log → IsFirstWithout bytes number key quotes fitting
+first_right log line number key same h of_key here quotes are fitting fit bytes is =
     let lines = log.observations.items in
     let x = some_at lines line h.0 in
     let at = line_at bytes log is same line x.0 number x.1 here in
@@ -88,6 +97,10 @@ first_right log line number key same h of_key here bytes is =
       of_key = subst (λ (w : Log). IsOfKey w x.0 key) (sym at.2) (of_key x.0 x.1);
       has = subst IsLinearizable (sym at.2) h.1;
       lacks = λ lin. h.2 (subst IsLinearizable (ap (λ w. x.0 ∷ w) at.2 ∙ sym (part_more lines line x.0 x.1)) lin);
+      quotes_are = are (record { number = number; observation = x.0 } ∷ at.0)
+          (ap (λ w. x.0 ∷ w) at.2 ∙ sym (part_more lines line x.0 x.1))
+          (ap (λ ns. number ∷ ns) at.3 ∙ sym (part_more log.numbers.items line number here));
+      fit = subst (λ (w : Log). All (Fits (about_key key w) x.0) fitting) (sym at.2) (fit x.0 x.1);
     }
 
 pub undecided_right : (log : ClientLog) (line number : ℕ) (key : List ℕ) (cause : GiveUp) → IsNumbered log

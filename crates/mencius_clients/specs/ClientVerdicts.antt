@@ -1,11 +1,13 @@
 -- The verdict on the submissions and replies of a log.
 use Rattle.std.specs.Prelude.{ℕ, ◌≡◌, ◌+◌, ◌<◌, List, ◌∷◌, ◌++◌, Option, Some, None, IfSome, Ok, false, length, reverse, slice_get, string_bytes, take}
+use Rattle.std.specs.List.{All}
 use Rattle.mencius_base.specs.declared.command.Command.{Command}
 use Rattle.mencius_base.specs.declared.command.CommandId.{CommandId}
 use Rattle.mencius_model.specs.KeyMap.{key_of}
 use Rattle.mencius_log.specs.declared.observation.Answer.{Answer}
 use Rattle.mencius_log.specs.declared.observation.Observation.{Observation}
 use Rattle.mencius_log.specs.declared.observation.Observation.TheVariants.{Submit, Execute, Reply, Lookup, Tell, Settle, Restore}
+use Rattle.mencius_judge.specs.declared.quote.Quote.{Quote}
 use Rattle.mencius_judge.specs.declared.violation.Violation.{Violation}
 use Rattle.mencius_judge.specs.Judged.{Breaks}
 use Rattle.mencius_judge.specs.Linearization.{IsLinearization}
@@ -21,6 +23,8 @@ use Rattle.mencius_clients.specs.declared.client_verdict.GiveUp.{GiveUp}
 use Rattle.mencius_clients.specs.declared.client_verdict.GiveUp.TheVariants.{Waiting, Configurations}
 use Rattle.mencius_clients.specs.ClientCounts.{AreClientCounts}
 use Rattle.mencius_clients.specs.Explained.{AreManyWaiting, IsLinearizable, heard, most_waiting}
+use Rattle.mencius_clients.specs.Fitting.{Fits, about_key}
+use Rattle.mencius_clients.specs.KeyLines.{lines_about}
 use Rattle.mencius_clients.specs.ReadLogs.{IsLogOf}
 
 -- ---- lines
@@ -92,8 +96,10 @@ pub record IsUnjudged (bytes : List ℕ) (counts : ClientCounts) : Type 0 where
   pub unreplied : counts.replies ≡ 0
 
 -- the line with this number is a reply to a command of this key. With it, the log has no linearization. The lines before
--- it have one
-pub record IsFirstWithout (bytes : List ℕ) (number : ℕ) (key : List ℕ) : Type 0 where
+-- it have one. The quotes are the lines about the key since the last moment at which none of its commands waited.
+-- If the reply had one of the fitting answers, the lines about the key would have a linearization
+pub record IsFirstWithout (bytes : List ℕ) (number : ℕ) (key : List ℕ) (quotes : List Quote) (fitting : List Answer)
+    : Type 0 where
   pub o : Observation
   pub earlier : NumberedLog
   pub at : IsLineAt bytes number o earlier
@@ -101,6 +107,8 @@ pub record IsFirstWithout (bytes : List ℕ) (number : ℕ) (key : List ℕ) : T
   pub of_key : IsOfKey (log_of earlier) o key
   pub has : IsLinearizable (log_of earlier)
   pub lacks : IsLinearizable (o ∷ log_of earlier) → ⊥
+  pub quotes_are : quotes ≡ reverse (lines_about key (record { number = number; observation = o } ∷ earlier))
+  pub fit : All (Fits (about_key key (log_of earlier)) o) fitting
 
 -- the submission or reply at the line with this number shows this violation, after the submissions and replies before it
 pub record IsBrokenAt (bytes : List ℕ) (number : ℕ) (violation : Violation) : Type 0 where
@@ -127,7 +135,8 @@ pub record IsUndecidedAt (bytes : List ℕ) (most number : ℕ) (key : List ℕ)
 abbrev pub IsVerdictFor : List ℕ → ℕ → ClientVerdict → Type 0
 IsVerdictFor bytes most (Linearizable counts order) = IsLinearizedBy bytes counts order.items
 IsVerdictFor bytes most (Unjudged counts) = IsUnjudged bytes counts
-IsVerdictFor bytes most (NotLinearizable number key) = IsFirstWithout bytes number (string_bytes key)
+IsVerdictFor bytes most (NotLinearizable number key quotes fitting) =
+    IsFirstWithout bytes number (string_bytes key) quotes.items fitting.items
 IsVerdictFor bytes most (Broken number violation) = IsBrokenAt bytes number violation
 IsVerdictFor bytes most (Undecided number key cause) = IsUndecidedAt bytes most number (string_bytes key) cause
 IsVerdictFor bytes most Unconfirmed = Unit {0}

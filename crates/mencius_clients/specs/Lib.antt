@@ -6,5 +6,8 @@ pub mod FirstLines
 pub mod ReadLogs
 pub mod ClientCounts
 pub mod Keys
+pub mod KeyLines
+pub mod Fitting
 pub mod ClientVerdicts
 pub mod ClientLines
+pub mod ClientJson

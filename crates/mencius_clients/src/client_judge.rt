@@ -12,10 +12,12 @@ ghost use Rattle.mencius_clients.specs.ReadLogs.{IsLogOf, IsNumbered, IsReadFail
 
 use crate::checking::{Heard, hear};
 use crate::client_counts::counts_of;
-use crate::client_log::{ClientLog, read_log};
+use crate::client_log::{ClientLog, number_at, read_log};
 use crate::client_verdict::{ClientJudgement, ClientVerdict, GiveUp};
 use crate::explanation::{Cause, Explanation, explain_heard};
 use crate::first_lines::{FirstLine, first_line};
+use crate::fitting::fitting_answers;
+use crate::key_lines::key_lines;
 use crate::line_keys::key_at;
 use mencius_base::NoMemory;
 use mencius_io::{Failure, Source};
@@ -96,7 +98,7 @@ fn judge_unexplained(
     ensures { IfOk result (λ verdict. (bytes : List ℕ) → IsLogOf bytes log.now → IsVerdictFor bytes most verdict) }
 {
     match first_line(alloc, log.observations.as_slice(), most, hint)? {
-        FirstLine::Found { line } => first_without(alloc, log, line),
+        FirstLine::Found { line } => first_without(alloc, log, most, line),
         FirstLine::Broken { line, violation } => Ok(broken(log, line, violation)),
         FirstLine::Undecided { cause } => undecided(alloc, log, most, cause),
     }
@@ -104,7 +106,12 @@ fn judge_unexplained(
 
 // Returns the verdict on a log that first has no linearization with this line.
 #[tactic(auto, using(crate::proofs::LineCommands::found_command, crate::proofs::Verdicts::command_within, crate::proofs::Verdicts::first_right))]
-fn first_without(alloc: Global, log: &ClientLog, line: usize) -> Result<ClientVerdict, NoMemory>
+fn first_without(
+    alloc: Global,
+    log: &ClientLog,
+    limit: usize,
+    line: usize,
+) -> Result<ClientVerdict, NoMemory>
     requires numbered { IsNumbered log.now }
     requires submitted { WereSubmitted (heard (reverse log.now.observations.items)) }
     requires first { IsFirstLine log.now.observations.items (Found line) }
@@ -112,8 +119,21 @@ fn first_without(alloc: Global, log: &ClientLog, line: usize) -> Result<ClientVe
         → IsVerdictFor bytes most verdict) }
 {
     let key = key_at(alloc, log.observations.as_slice(), line)?;
+    let quotes = key_lines(alloc, log, line, key.as_str())?;
+    let fitting = fitting_answers(
+        alloc,
+        log.observations.as_slice(),
+        line,
+        key.as_str(),
+        limit,
+    )?;
     let number = number_at(log, line);
-    Ok(ClientVerdict::NotLinearizable { number, key })
+    Ok(ClientVerdict::NotLinearizable {
+        number,
+        key,
+        quotes,
+        fitting,
+    })
 }
 
 // Returns the verdict on a log that breaks a promise at this line.
@@ -173,13 +193,4 @@ fn given_up(
     let key = key_at(alloc, log.observations.as_slice(), line)?;
     let number = number_at(log, line);
     Ok(ClientVerdict::Undecided { number, key, cause })
-}
-
-// Returns the number of the line of an observation.
-fn number_at(log: &ClientLog, line: usize) -> u64
-    requires numbered { IsNumbered log.now }
-    requires within { line < length log.now.observations.items }
-    ensures { slice_get log.now.numbers.items line ≡ Some result }
-{
-    log.numbers[line]
 }

@@ -3,7 +3,8 @@
 use crate::client_counts::ClientCounts;
 use crate::client_log::ClientLog;
 use mencius_base::CommandId;
-use mencius_judge::Violation;
+use mencius_judge::{Quote, Violation};
+use mencius_log::Answer;
 
 /// The reason why a search was given up.
 #[derive(Clone, Copy, Debug, PartialEq, Eq)]
@@ -27,10 +28,14 @@ pub enum ClientVerdict {
         counts: ClientCounts,
     },
     /// The line with this number is a reply to a command of this key. With it, the log has no linearization. The lines
-    /// before it have one.
+    /// before it have one. The quotes are the lines about the key since the last moment at which none of its commands
+    /// waited for a reply. If the reply had one of the answers `fitting`, the lines about the key would have a
+    /// linearization.
     NotLinearizable {
         number: u64,
         key: String,
+        quotes: Vec<Quote>,
+        fitting: Vec<Answer>,
     },
     /// The submission or reply at the line with this number breaks a promise.
     Broken {

@@ -4,6 +4,7 @@
 mod answers;
 mod checking;
 mod client_counts;
+mod client_json;
 mod client_judge;
 mod client_lines;
 mod client_log;
@@ -11,7 +12,9 @@ mod client_verdict;
 mod configuration;
 mod explanation;
 mod first_lines;
+mod fitting;
 mod identities;
+mod key_lines;
 mod key_search;
 mod line_keys;
 mod orders;
@@ -26,8 +29,9 @@ mod twins;
 mod work;
 
 pub use client_counts::ClientCounts;
+pub use client_json::push_client_json;
 pub use client_judge::judge_clients;
-pub use client_lines::{push_client_verdict, push_order};
+pub use client_lines::{push_client_explanation, push_client_verdict, push_order};
 pub use client_log::{ClientLog, read_log};
 pub use client_verdict::{ClientJudgement, ClientVerdict, GiveUp};
 pub use explanation::{Cause, Explanation, explain};

@@ -19,7 +19,7 @@ pub fn submitted_at(log: &[Observation], line: usize) -> Option<&Command>
 }
 
 /// Returns the text that an operation writes.
-fn new_text(op: &Op) -> Option<&Text>
+pub fn new_text(op: &Op) -> Option<&Text>
     ensures { MatchOption result (new_text op.now ≡ None) (λ t. new_text op.now ≡ Some t.now) }
 {
     match op {

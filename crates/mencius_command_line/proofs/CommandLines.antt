@@ -174,12 +174,12 @@ unfolding clap_on_literals
 json-taken = refl
 
 clients-asked : asked_at (codes "judge" ∷ codes "--clients" ∷ [])
-    ≡ asked_clients (Some (record { most = 100000; with_order = false }))
+    ≡ asked_clients (Some (record { most = 100000; with_order = false; is_brief = false; is_json = false }))
 unfolding clap_on_literals
 clients-asked = refl
 
 order-asked : asked_at (codes "judge" ∷ codes "--clients" ∷ codes "--order" ∷ codes "--most" ∷ codes "9" ∷ [])
-    ≡ asked_clients (Some (record { most = 9; with_order = true }))
+    ≡ asked_clients (Some (record { most = 9; with_order = true; is_brief = false; is_json = false }))
 unfolding clap_on_literals number_of
 order-asked = refl
 
@@ -199,7 +199,8 @@ most-without-clients : fault_at (codes "judge" ∷ codes "--most=9" ∷ []) ≡ 
 unfolding clap_on_literals
 most-without-clients = refl
 
-clients-with-json : fault_at (codes "judge" ∷ codes "--clients" ∷ codes "--json" ∷ []) ≡ kind.ValueValidation ∷ []
+clients-with-json : asked_at (codes "judge" ∷ codes "--clients" ∷ codes "--json" ∷ codes "--brief" ∷ [])
+    ≡ asked_clients (Some (record { most = 100000; with_order = false; is_brief = true; is_json = true }))
 unfolding clap_on_literals
 clients-with-json = refl
 

@@ -1,5 +1,5 @@
 -- The options of the task `judge` for a log that clients saw.
-use Rattle.std.specs.Prelude.{ℕ, ◌&&◌, ◌||◌, Bool, not, if◌then◌else◌, List, [], ◌∷◌, Option, Some, None, Result, Ok, Err, codes, is_some}
+use Rattle.std.specs.Prelude.{ℕ, ◌||◌, Bool, if◌then◌else◌, List, [], ◌∷◌, Option, Some, None, Result, Ok, Err, codes, is_some}
 use Rattle.clap.specs.Words.{Kinds, Row, Text, first_of}
 use Rattle.clap.specs.declared.error.kind.ErrorKind.TheVariants as kind
 use Rattle.mencius_io.specs.declared.fault.IoFault.{IoFault}
@@ -15,10 +15,6 @@ abbrev pub has_client_option : List Row → Bool
 has_client_option rows =
     has_flag (codes "clients") rows || (has_flag (codes "order") rows || is_some (first_of (codes "most") rows))
 
--- the options fit together. `--most` and `--order` need `--clients`, and `--json` excludes it
-abbrev pub fit_together : List Row → Bool
-fit_together rows = has_flag (codes "clients") rows && not (has_flag (codes "json") rows)
-
 -- the number of configurations without `--most`
 abbrev pub default_most : ℕ
 default_most = 100000
@@ -30,16 +26,19 @@ most_in None = Ok default_most
 most_in (Some word) = value_or_fault is_u32 (number_of word)
 
 -- the options with this number, or none if the number has a fault
-abbrev pub client_options_by : Bool → Result ℕ IoFault → Option ClientOptions
-client_options_by with_order (Ok most) = Some (record { most = most; with_order = with_order })
-client_options_by with_order (Err fault) = None
+abbrev pub client_options_by : List Row → Result ℕ IoFault → Option ClientOptions
+client_options_by rows (Ok most) = Some (record {
+  most = most;
+  with_order = has_flag (codes "order") rows;
+  is_brief = has_flag (codes "brief") rows;
+  is_json = has_flag (codes "json") rows;
+})
+client_options_by rows (Err fault) = None
 
--- the options of a judgement of what clients saw, or none if the options do not fit together or N is not a number
+-- the options of a judgement of what clients saw, or none without `--clients`, or if N is not a number
 abbrev pub client_options_of : List Row → Option ClientOptions
 client_options_of rows =
-    if fit_together rows
-    then client_options_by (has_flag (codes "order") rows) (most_in (first_of (codes "most") rows))
-    else None
+    if has_flag (codes "clients") rows then client_options_by rows (most_in (first_of (codes "most") rows)) else None
 
 -- ---- their faults
 

@@ -2,7 +2,7 @@
 
 ghost use Rattle.std.specs.Prelude.{◌≡◌, IfOk, Ok, Some, codes, false, is_some, true};
 ghost use Rattle.clap.specs.Words.{FailsBy, first_of, found_of, kind_of, rows_of};
-ghost use Rattle.mencius_command_line.specs.ClientOptions.{client_faults, client_options_of, fit_together, has_client_option, most_faults, most_in};
+ghost use Rattle.mencius_command_line.specs.ClientOptions.{client_faults, client_options_of, has_client_option, most_faults, most_in};
 
 use crate::line::{has_flag, judge_command};
 use clap::error::ErrorKind;
@@ -17,14 +17,17 @@ pub struct ClientOptions {
     pub most: u32,
     /// Whether the order that was found is printed.
     pub with_order: bool,
+    /// Whether the lines and the sentence that explain a verdict are left out.
+    pub is_brief: bool,
+    /// Whether the verdict is printed as one JSON object.
+    pub is_json: bool,
 }
 
 const DEFAULT_MOST: u32 = 100_000;
 
 const MOST_RULE: &str = "the number of configurations is a number, 0 to 4294967295";
 
-const OPTIONS_RULE: &str =
-    "'--most' and '--order' need '--clients', which cannot be used with '--json'";
+const OPTIONS_RULE: &str = "'--most' and '--order' need '--clients'";
 
 /// Returns whether one of these options was given.
 pub(crate) fn has_client_option(matches: &ArgMatches) -> bool
@@ -41,13 +44,6 @@ fn has_value(matches: &ArgMatches, name: &str) -> bool
         Some(_) => true,
         None => false,
     }
-}
-
-// Returns whether the options fit together.
-fn fit_together(matches: &ArgMatches) -> bool
-    ensures { result ≡ fit_together (rows_of (found_of matches.now)) }
-{
-    has_flag(matches, "clients") && !has_flag(matches, "json")
 }
 
 // Returns the number of configurations that the options name.
@@ -72,24 +68,27 @@ fn most_error(alloc: Global, word: &str) -> Result<Error, AllocError>
     judge_command(alloc)?.error(ErrorKind::ValueValidation, message.as_str())
 }
 
-// Builds the error for options that do not fit together.
+// Builds the error for options that need `--clients`.
 fn misfit_error(alloc: Global) -> Result<Error, AllocError>
     ensures { IfOk result (λ e. kind_of e ≡ ErrorKind.ValueValidation) }
 {
     judge_command(alloc)?.error(ErrorKind::ValueValidation, OPTIONS_RULE)
 }
 
-/// Returns the options of a judgement of what clients saw. Fails if the options do not fit together, or if N is not a
-/// number.
+/// Returns the options of a judgement of what clients saw. Fails without `--clients`, or if N is not a number.
 pub(crate) fn client_options_of(alloc: Global, matches: &ArgMatches) -> Result<ClientOptions, Error>
     ensures options { IfOk result (λ options.
         client_options_of (rows_of (found_of matches.now)) ≡ Some options) }
     ensures faults { FailsBy (client_faults (client_options_of (rows_of (found_of matches.now)))) result }
 {
-    if !fit_together(matches) {
+    if !has_flag(matches, "clients") {
         return Err(misfit_error(alloc)?);
     }
     let most = most_in(alloc, matches)?;
-    let with_order = has_flag(matches, "order");
-    Ok(ClientOptions { most, with_order })
+    Ok(ClientOptions {
+        most,
+        with_order: has_flag(matches, "order"),
+        is_brief: has_flag(matches, "brief"),
+        is_json: has_flag(matches, "json"),
+    })
 }

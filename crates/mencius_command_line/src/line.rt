@@ -298,8 +298,7 @@ fn key_error(alloc: Global, key: &str) -> Result<Error, AllocError>
 /// - `run [--journal] [--observations] [--lookup KEY]`
 ///
 /// A KEY that is not a key of a command is also refused. So is an EVENT, an I, an N or an S that is not a number, and an
-/// ID that is not the identity of a command. `--most` and `--order` are refused without `--clients`, and `--json` is
-/// refused with it.
+/// ID that is not the identity of a command. `--most` and `--order` are refused without `--clients`.
 ///
 /// # Errors
 ///

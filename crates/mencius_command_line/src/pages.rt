@@ -341,7 +341,10 @@ verdict is one of these, or a violation of OneCommand, Submitted or OneReply, wh
   unjudged commands C replies 0 lost L keys K
                             No command has a reply
   violation LINE Linearizable key KEY
-                            There is no such order up to this reply, and there is one before it
+                            There is no such order up to this reply, and there is one before it.
+                            The lines about KEY follow, since the last moment at which none of
+                            its commands waited for a reply. Then a sentence names replies that
+                            would fit the earlier lines about KEY
   undecided LINE key KEY waiting W
                             The search was given up, because W commands of KEY wait for a reply
   undecided LINE key KEY configurations N

@@ -1,16 +1,19 @@
 //! Appends the JSON object that reports a verdict. No text in it needs an escape.
 
-ghost use Rattle.std.specs.Prelude.{◌≡◌, ◌++◌, ◌∷◌, OnOk, codes, flat_map, string_bytes};
+ghost use Rattle.std.specs.Prelude.{◌≡◌, ◌++◌, OnOk, codes, string_bytes};
 ghost use Rattle.mencius_format.specs.Texts.{id_text};
 ghost use Rattle.mencius_log.specs.ObservationLines.{answer_text, held_text};
 ghost use Rattle.mencius_verdict.specs.Sentences.{sentence_text};
-ghost use Rattle.mencius_verdict.specs.VerdictJson.{breach_json, command_figures, counts_json, figures_json, found_fields, json_text, lines_field, name_of, number_field, place_fields, promise_name, quote_json, quotes_json, server_figures, text_field, verdict_field};
+ghost use Rattle.mencius_verdict.specs.VerdictJson.{breach_json, command_figures, counts_json, figures_json, found_fields, json_text, name_of, number_field, place_fields, promise_name, server_figures, text_field};
 
+use crate::json_fields::{
+    push_key_field, push_lines_field, push_number_field, push_size_field, push_verdict_field,
+};
 use crate::sentences::push_sentence;
 use mencius_base::{CommandId, Key, Text};
 use mencius_format::push_id;
-use mencius_judge::{Breach, Counts, Promise, Quote, Verdict, Violation};
-use mencius_log::{Answer, push_answer, push_held, push_observation};
+use mencius_judge::{Counts, Promise, Quote, Verdict, Violation};
+use mencius_log::{Answer, push_answer, push_held};
 use std::alloc::AllocError;
 
 /// Appends a verdict as one JSON object, and a line feed.
@@ -20,7 +23,12 @@ pub fn push_json(text: &mut String, verdict: &Verdict) -> Result<(), AllocError>
     match verdict {
         Verdict::Kept(counts) => push_counts(text, "ok", counts),
         Verdict::Unjudged(counts) => push_counts(text, "unjudged", counts),
-        Verdict::Broken(breach) => push_breach(text, breach),
+        Verdict::Broken(breach) => push_breach_json(
+            text,
+            breach.number,
+            &breach.violation,
+            breach.quotes.as_slice(),
+        ),
     }
 }
 
@@ -28,36 +36,34 @@ fn push_counts(text: &mut String, word: &str, counts: &Counts) -> Result<(), All
     ensures { OnOk result (string_bytes text.new
         ≡ string_bytes text.old ++ counts_json word.now counts.now) }
 {
-    push_verdict(text, word)?;
-    push_size(text, "servers", counts.servers)?;
-    push_number(text, "commands", counts.commands)?;
-    push_size(text, "executed", counts.executed)?;
-    push_number(text, "replies", counts.replies)?;
-    push_size(text, "open", counts.open_replies)?;
-    push_number(text, "lookups", counts.lookups)?;
-    push_size(text, "shortest", counts.shortest)?;
+    push_verdict_field(text, word)?;
+    push_size_field(text, "servers", counts.servers)?;
+    push_number_field(text, "commands", counts.commands)?;
+    push_size_field(text, "executed", counts.executed)?;
+    push_number_field(text, "replies", counts.replies)?;
+    push_size_field(text, "open", counts.open_replies)?;
+    push_number_field(text, "lookups", counts.lookups)?;
+    push_size_field(text, "shortest", counts.shortest)?;
     text.push_str("}\n")
 }
 
-fn push_breach(text: &mut String, breach: &Breach) -> Result<(), AllocError>
+/// Appends the object of a log that breaks a promise at the line with this number, and a line feed.
+pub fn push_breach_json(
+    text: &mut String,
+    number: u64,
+    violation: &Violation,
+    quotes: &[Quote],
+) -> Result<(), AllocError>
     ensures { OnOk result (string_bytes text.new
-        ≡ string_bytes text.old ++ breach_json breach.now.number breach.now.violation breach.now.quotes.items) }
+        ≡ string_bytes text.old ++ breach_json number violation.now quotes.now) }
 {
-    push_verdict(text, "violation")?;
-    push_promise(text, &breach.violation)?;
-    push_number(text, "line", breach.number)?;
-    push_figures(text, &breach.violation)?;
-    push_lines(text, breach.quotes.as_slice())?;
-    push_said(text, &breach.violation)?;
+    push_verdict_field(text, "violation")?;
+    push_promise(text, violation)?;
+    push_number_field(text, "line", number)?;
+    push_figures(text, violation)?;
+    push_lines_field(text, quotes)?;
+    push_said(text, violation)?;
     text.push_str("}\n")
-}
-
-// Appends the start of the object of a verdict.
-fn push_verdict(text: &mut String, word: &str) -> Result<(), AllocError>
-    ensures { OnOk result (string_bytes text.new
-        ≡ string_bytes text.old ++ verdict_field word.now) }
-{
-    write!(text, "{{\"verdict\":\"{word}\"")
 }
 
 // Appends the field with the broken promise.
@@ -67,16 +73,6 @@ fn push_promise(text: &mut String, violation: &Violation) -> Result<(), AllocErr
 {
     let promise = promise_name(violation);
     write!(text, ",\"promise\":\"{promise}\"")
-}
-
-// Appends the field with the quoted lines.
-fn push_lines(text: &mut String, quotes: &[Quote]) -> Result<(), AllocError>
-    ensures { OnOk result (string_bytes text.new
-        ≡ string_bytes text.old ++ lines_field quotes.now) }
-{
-    text.push_str(",\"lines\":[")?;
-    push_quotes(text, quotes)?;
-    text.push(']')
 }
 
 // Appends the field with the sentence.
@@ -111,41 +107,6 @@ fn name_of(promise: Promise) -> &'static str
         Promise::Settled => "Settled",
         Promise::Restore => "Restore",
     }
-}
-
-// Appends the objects of quoted lines, with commas between them.
-fn push_quotes(text: &mut String, quotes: &[Quote]) -> Result<(), AllocError>
-    ensures { OnOk result (string_bytes text.new
-        ≡ string_bytes text.old ++ quotes_json quotes.now) }
-{
-    let Some((first, others)) = quotes.split_first() else {
-        return Ok(());
-    };
-    push_quote(text, first)?;
-    push_others(text, others)
-}
-
-// Appends the objects of quoted lines, each after a comma.
-fn push_others(text: &mut String, quotes: &[Quote]) -> Result<(), AllocError>
-    ensures { OnOk result (string_bytes text.new
-        ≡ string_bytes text.old ++ flat_map (λ q. 44 ∷ quote_json q) quotes.now) }
-{
-    for quote in quotes {
-        text.push(',')?;
-        push_quote(text, quote)?;
-    }
-    Ok(())
-}
-
-// Appends the object of a quoted line.
-fn push_quote(text: &mut String, quote: &Quote) -> Result<(), AllocError>
-    ensures { OnOk result (string_bytes text.new ≡ string_bytes text.old ++ quote_json quote.now) }
-{
-    let number = quote.number;
-    write!(text, "{{\"line\":{number}")?;
-    text.push_str(",\"text\":\"")?;
-    push_observation(text, &quote.observation)?;
-    text.push_str("\"}")
 }
 
 // Appends the figures of a violation.
@@ -220,7 +181,7 @@ fn push_place_figures(
         ++ found_fields (held_text expected.now) (answer_text found.now)))) }
 {
     push_name(text, "command", id)?;
-    push_size(text, "place", place)?;
+    push_size_field(text, "place", place)?;
     push_text(text, "expected", expected)?;
     push_reply(text, "found", found)
 }
@@ -239,10 +200,10 @@ fn push_lookup_figures(
         ++ (number_field (codes "from") from ++ (number_field (codes "to") to
         ++ text_field (codes "found") (held_text found.now)))))) }
 {
-    push_number(text, "reader", u64::from(reader))?;
-    push_key(text, key)?;
-    push_size(text, "from", from)?;
-    push_size(text, "to", to)?;
+    push_number_field(text, "reader", u64::from(reader))?;
+    push_key_field(text, key.as_str())?;
+    push_size_field(text, "from", from)?;
+    push_size_field(text, "to", to)?;
     push_text(text, "found", found)
 }
 
@@ -302,7 +263,7 @@ fn push_server(text: &mut String, server: u32) -> Result<(), AllocError>
     ensures { OnOk result (string_bytes text.new
         ≡ string_bytes text.old ++ number_field (codes "server") server) }
 {
-    push_number(text, "server", u64::from(server))
+    push_number_field(text, "server", u64::from(server))
 }
 
 // Appends the figures of a snapshot that a server could not take over.
@@ -317,8 +278,8 @@ fn push_restore_figures(
         ++ number_field (codes "place") count))) }
 {
     push_server(text, server)?;
-    push_number(text, "from", u64::from(source))?;
-    push_number(text, "place", u64::from(count))
+    push_number_field(text, "from", u64::from(source))?;
+    push_number_field(text, "place", u64::from(count))
 }
 
 // Appends two fields with the identities of commands.
@@ -336,38 +297,12 @@ fn push_names(
     push_name(text, further, other)
 }
 
-// Appends a field with a key, after a comma.
-fn push_key(text: &mut String, key: &Key) -> Result<(), AllocError>
-    ensures { OnOk result (string_bytes text.new
-        ≡ string_bytes text.old ++ text_field (codes "key") key.now) }
-{
-    text.push_str(",\"key\":\"")?;
-    text.push_str(key.as_str())?;
-    text.push('"')
-}
-
-// Appends a field with a number, after a comma.
-fn push_number(text: &mut String, name: &str, number: u64) -> Result<(), AllocError>
-    ensures { OnOk result (string_bytes text.new
-        ≡ string_bytes text.old ++ number_field name.now number) }
-{
-    write!(text, ",\"{name}\":{number}")
-}
-
-// Appends a field with a size or a place, after a comma.
-fn push_size(text: &mut String, name: &str, size: usize) -> Result<(), AllocError>
-    ensures { OnOk result (string_bytes text.new
-        ≡ string_bytes text.old ++ number_field name.now size) }
-{
-    write!(text, ",\"{name}\":{size}")
-}
-
 fn push_place(text: &mut String, server: u32, place: usize) -> Result<(), AllocError>
     ensures { OnOk result (string_bytes text.new
         ≡ string_bytes text.old ++ place_fields server place) }
 {
     push_server(text, server)?;
-    push_size(text, "place", place)
+    push_size_field(text, "place", place)
 }
 
 // Appends a field with the identity of a command, after a comma.

@@ -1,6 +1,6 @@
 use Rattle.std.proofs.Common.{◌≡◌, ◌∷◌, ◌++◌, flat_map, string_bytes, take}
 use Rattle.mencius_verdict.specs.VerdictJson.{quote_json}
-use Rattle.mencius_verdict.proofs.verdict_json.push_others.Given as goal
+use Rattle.mencius_verdict.proofs.json_fields.push_others.Given as goal
 
 abbrev pub invariant-loop-quote : goal.invariant-loop-quote
 invariant-loop-quote l =

@@ -1,6 +1,6 @@
 use Rattle.std.proofs.Common.{string_bytes}
 use Rattle.mencius_verdict.proofs.GrownTexts.{last_piece, with_piece}
-use Rattle.mencius_verdict.proofs.verdict_json.push_quote.Goals as goal
+use Rattle.mencius_verdict.proofs.json_fields.push_quote.Goals as goal
 
 pub returns : goal.returns
 returns c =

@@ -1,0 +1,11 @@
+use Rattle.std.proofs.Common.{string_bytes}
+use Rattle.mencius_verdict.proofs.GrownTexts.{with_piece}
+use Rattle.mencius_clients.proofs.client_json.push_counts.Goals as goal
+
+pub returns : goal.returns
+returns c =
+    with_piece _ (string_bytes c.args.text.now) _ _ _ _ c.in_ok-push_verdict_field.ensures
+    (with_piece _ (string_bytes c.push_verdict_field.new.text) _ _ _ _ c.in_ok-push_number_field.ensures
+    (with_piece _ (string_bytes c.push_number_field.new.text) _ _ _ _ c.in_ok-push_number_field-2.ensures
+    (with_piece _ (string_bytes c.push_number_field-2.new.text) _ _ _ _ c.in_ok-push_number_field-3.ensures
+    c.push_size_field.ensures)))
