@@ -16,6 +16,7 @@ def look(browser):
     click_messages(browser)
     filter_events(browser)
     use_the_strip(browser)
+    look_at_marks_without_a_lane(browser)
     look_at_far_parts(browser)
     play(browser)
 
@@ -39,12 +40,16 @@ CUT = """const box = part => part.getBoundingClientRect(), edge = box(document.q
 CUT_BOXES = """const box = part => part.getBoundingClientRect(), edge = box(document.querySelector('#drawing svg'));
   return [...document.querySelectorAll('#drawing .sent')].filter(sent =>
     box(sent.querySelector('rect')).right > edge.right - 0.5).map(sent => sent.textContent)"""
-STRUCK = """const box = part => part.getBoundingClientRect(), arrows = [...document.querySelectorAll('#drawing .way')];
-  const isIn = (inner, outer) => inner.left >= outer.left - 1 && inner.right <= outer.right + 1;
+# The ends of a label come from the sum of its letters' widths. A box of slanted letters is wider than they are.
+STRUCK = """const arrows = [...document.querySelectorAll('#drawing .way')], numberOf = (part, name) => +part.getAttribute(name);
+  const endsOf = text => { const x = numberOf(text, 'x'), wide = text.getComputedTextLength();
+    return getComputedStyle(text).textAnchor === 'end' ? [x - wide, x] : [x, x + wide]; };
+  const isIn = ([left, right], paper) => { const x = numberOf(paper, 'x');
+    return left >= x - 1 && right <= x + numberOf(paper, 'width') + 1; };
   return [...document.querySelectorAll('#drawing g:not(.lane) > text')].filter(text => {
     const paper = text.parentElement.querySelector('rect'), isFirst = arrow =>
       arrow.compareDocumentPosition(text) & Node.DOCUMENT_POSITION_FOLLOWING;
-    return !paper || !isIn(box(text), box(paper)) || !arrows.every(isFirst);
+    return !paper || !isIn(endsOf(text), paper) || !arrows.every(isFirst);
   }).map(text => text.textContent)"""
 
 
@@ -57,7 +62,18 @@ def look_at_labels(browser):
     browser.choose("#example", "wrong_suspicion_keeps_the_command")
     same(browser, "the labels of an example that are cut off", [], browser.run(CUT))
     same(browser, "the labels of an example behind an arrow", [], browser.run(STRUCK))
+    look_at_boxes(browser)
+
+
+def look_at_boxes(browser):
+    """The box around each label is inside the picture, also if the letters of the browser's font are narrow or wide."""
     same(browser, "the boxes of an example whose line is cut off", [], browser.run(CUT_BOXES))
+    for width in (0.5, 0.7):
+        browser.run(f"(window.wrappedJSObject ?? window).letterWidth.found = {width}")
+        browser.choose("#example", "one_command")
+        browser.choose("#example", "wrong_suspicion_keeps_the_command")
+        same(browser, f"the boxes whose line is cut off if letters of size 1 are {width} wide", [], browser.run(CUT_BOXES))
+    browser.open(URL)
 
 
 def look_at_long_numbers(browser):
@@ -207,11 +223,20 @@ def look_at_folded_rows(browser):
     same(browser, "the marks that are not in their rows", [], off)
 
 
-def use_the_strip(browser):
-    marks = """return [...document.querySelectorAll('#strip .mark')]
-      .map(path => path.getAttribute('d').match(/M/g).length).reduce((sum, one) => sum + one, 0)"""
+MARKS = """return [...document.querySelectorAll('#strip .mark')]
+  .map(path => path.getAttribute('d').match(/M/g).length).reduce((sum, one) => sum + one, 0)"""
+
+
+def look_at_marks_without_a_lane(browser):
+    """Server 4 does not exist. Its mark would be among the tracks."""
+    browser.open(link([*many_events(), "submit 4 9.0 set a x"]))
     browser.wait("return document.querySelector('#strip .mark')", "the strip")
-    same(browser, "the marks of the strip", 48, browser.run(marks))
+    same(browser, "the marks of 48 events, and of one at a server that does not exist", 48, browser.run(MARKS))
+
+
+def use_the_strip(browser):
+    browser.wait("return document.querySelector('#strip .mark')", "the strip")
+    same(browser, "the marks of the strip", 48, browser.run(MARKS))
     browser.click("#tracks")
     names = "return [...document.querySelectorAll('#strip-servers .track')].map(name => name.textContent)"
     same(browser, "the tracks", [f"i{instance}" for instance in range(0, 24, 3)], browser.run(names))

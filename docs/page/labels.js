@@ -54,6 +54,14 @@ function backLabels(svg) {
   }
 }
 
+// Gives the box around each label the size of the label. The program does not know the width of the browser's letters.
+function fitBoxes(svg) {
+  for (const label of svg.querySelectorAll('rect:not(.backing) + .says')) {
+    const box = label.previousElementSibling, inside = label.getAttribute('x') - box.getAttribute('x');
+    box.setAttribute('width', Math.ceil(widthOfLabel(label, 'says')) + 2 * inside);
+  }
+}
+
 const laneOf = part => +/\((\d+)/.exec(part.closest('[transform]').getAttribute('transform'))[1];
 
 // The left end and the right end of all labels, in the picture's units.

@@ -30,6 +30,8 @@ function classOf({ result, about, isVain }, servers) {
 function pathsOf(trace, shown) {
   const paths = new Map(), isShown = new Set(shown), coarseness = Math.max(1, trace.events.length / FINEST);
   outcomesOf(trace).forEach((outcome, event) => {
+    // An event at a server that does not exist is refused, and has no lane.
+    if (outcome.server >= trace.servers) return;
     const kind = classOf(outcome, trace.servers), name = `mark ${kind}${isShown.has(event) ? '' : ' off'}`;
     if (!paths.has(name)) paths.set(name, { d: [], last: [] });
     const { d, last } = paths.get(name), place = Math.floor(event / coarseness);

@@ -114,6 +114,7 @@ function cutDrawing(svg, schedule, list) {
   const rows = fold(svg, rowsOfPicture(svg), list), bottom = bottomOf(svg);
   layArrowsBelow(svg);
   backLabels(svg);
+  fitBoxes(svg);
   setFarAside(svg);
   picture.rows = rows;
   placeViewBox(svg, schedule, bottom);
