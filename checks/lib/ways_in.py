@@ -1,6 +1,7 @@
 """Looks at the line under the title, and takes each of its three ways."""
 import re
 
+import files
 import markdown
 from page_user import URL, cursor, do, same
 
@@ -16,6 +17,7 @@ def look(browser):
     build(browser)
     judge(browser)
     bring_it_back(browser)
+    drop_a_log(browser)
 
 
 def take(browser, way):
@@ -83,3 +85,10 @@ def bring_it_back(browser):
     same(browser, "whether the title brings the line back", True, is_seen(browser, "#ways"))
     browser.click("#back")
     same(browser, "whether a step hides the line", False, is_seen(browser, "#ways"))
+
+
+def drop_a_log(browser):
+    browser.open(URL)
+    files.drop(browser, "kept.log", files.read("logs", "kept.log"))
+    same(browser, "whether a dropped log hides the line", False, is_seen(browser, "#ways"))
+    browser.click("#tab-lesson")

@@ -123,6 +123,7 @@ function keepLog(text) {
 // Shows and judges the log that is chosen in the list.
 function chooseLog() {
   const { value } = $('logs');
+  hideWays();
   showLog(value === 'own' ? draft.log : DATA.logs[value] ?? logOf(page.now.trace));
   judgeLog(core);
 }
@@ -133,6 +134,7 @@ function wireLog() {
   showLog(DATA.logs[$('logs').value = 'same_order']);
   $('logs').onchange = chooseLog;
   $('log').oninput = () => {
+    hideWays();
     keepLog($('log').value);
     later('judge', 150, () => judgeLog(core));
   };

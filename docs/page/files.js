@@ -63,6 +63,7 @@ async function openFile(file) {
     return;
   }
   const text = await file.text();
+  hideWays();
   if (text.trimStart().startsWith('{')) openScenario(file.name, text);
   else if (isOutput(text) || page.tab === 'compare') openOutput(file.name, text);
   else openLog(file.name, text);
@@ -78,7 +79,7 @@ function openScenario(name, text) {
     return;
   }
   const schedule = readScenario(found);
-  if (open(schedule)) say(`This is ${name}. Undo restores the former schedule.`);
+  if (become(schedule, schedule.events.length)) say(`This is ${name}. Undo restores the former schedule.`);
 }
 
 function openLog(name, text) {
