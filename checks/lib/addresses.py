@@ -8,6 +8,7 @@ import time
 
 from page_user import URL, act, cursor, same, schedule
 from shared import TOP, fail
+from ways_in import is_seen
 
 BAD_LINK = "#n=3&at=0&e=deliver+00+0"
 LETTERS = "abcdefghijklmnopqrstuvwxyzABCDEFGHIJKLMNOPQRSTUVWXYZ0123456789-_."
@@ -44,8 +45,14 @@ def open_a_long_link(browser):
     browser.open(URL + link)
     same(browser, "the events of a compressed link", LONG, json.loads(schedule(browser))["events"])
     browser.open(URL + link[:-40])
-    same(browser, "the message about a cut link", True, "is not a link" in browser.text("#toast"))
+    same(browser, "the line about a cut link", "The address is not a link to a schedule, or a part of it is missing.",
+         browser.text("#bad-link span"))
     same(browser, "the address with a cut link", link[:-40], hash_of(browser))
+    same(browser, "whether a cut link gives a draft to show", False, is_seen(browser, '#bad-link [data-to="draft"]'))
+    browser.click("#next")
+    same(browser, "whether the line stays after a step", True, is_seen(browser, "#bad-link"))
+    browser.click("#random")
+    same(browser, "whether the line stays after a change of the schedule", False, is_seen(browser, "#bad-link"))
 
 
 def look_at_a_schedule_that_is_too_long(browser):
@@ -88,7 +95,12 @@ def look_at_a_bad_link(browser):
     events = json.loads(browser.run("return document.getElementById('source').value"))["events"]
     same(browser, "the events of the bad link", ["deliver 00 0"], events)
     same(browser, "the mistake in the bad link", '"deliver 00 0"', browser.text("#editor mark"))
+    browser.click("#tab-lesson")
+    browser.click('#bad-link [data-to="draft"]')
+    same(browser, "what has the focus after a click that shows the draft", "source",
+         browser.run("return document.activeElement.id"))
     browser.click("#discard")
+    same(browser, "whether the line stays after discarding the draft", False, is_seen(browser, "#bad-link"))
     browser.click("#tab-lesson")
 
 

@@ -88,16 +88,54 @@ function isUnsaved() {
   return draft.isOpen || draft.log !== null || !isKept;
 }
 
-// Shows a link that the program refuses as a draft, with its mistake. The address stays.
-function showBadLink(link) {
+// ---- links with a mistake
+
+const NO_LINK = 'The address is not a link to a schedule, or a part of it is missing.';
+const NO_TRACE = 'the program cannot trace it';
+
+// Says what is wrong with the link in the address. A link that the program refuses also becomes a draft. The address
+// and the line with the mistake stay until the schedule changes.
+function showBadLink(link, mistake) {
   address.isFrozen = true;
   $('kept').className = 'bad';
-  $('kept').textContent = 'The address contains a link with a mistake, until you change the schedule.';
-  if (!link) {
-    say('The address is not a link to a schedule, or a part of it is missing. The page leaves it as it is.');
-    return;
-  }
-  openDraft(asFile(link.schedule));
+  $('kept').textContent = 'The address contains a link with a mistake.';
+  const [words, toDraft] = $('bad-link').children;
+  words.textContent = link ? `The link in the address has a mistake: ${mistake ?? NO_TRACE}` : NO_LINK;
+  toDraft.hidden = !link;
+  $('bad-link').hidden = false;
+  makeRoomForBadLink();
+  if (link) openDraft(asFile(link.schedule));
+}
+
+// The schedule has changed, so the address may change too.
+function freeAddress() {
+  address.isFrozen = false;
+  hideBadLink();
+}
+
+function hideBadLink() {
+  if ($('bad-link').hidden) return;
+  $('bad-link').hidden = true;
+  makeRoomForBadLink();
+}
+
+// In narrow windows, the names of the servers stay in sight below the line.
+function makeRoomForBadLink() {
+  document.body.style.setProperty('--warn', `${$('bad-link').offsetHeight}px`);
+}
+
+function goToDraft() {
+  setTab('editor');
+  $('source').scrollIntoView({ block: 'center' });
+  $('source').focus({ preventScroll: true });
+}
+
+function wireBadLink() {
+  $('bad-link').onclick = ({ target }) => {
+    const to = target.closest('[data-to]')?.dataset.to;
+    if (to === 'draft') goToDraft();
+    if (to === 'nothing') hideBadLink();
+  };
 }
 
 // ---- a link for others

@@ -42,6 +42,7 @@ function openDraft(text) {
 function discardDraft() {
   draft.isOpen = false;
   page.edited = null;
+  hideBadLink();
   showTab();
 }
 

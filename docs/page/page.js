@@ -98,7 +98,7 @@ function become(schedule, cursor, isKept = true) {
     page.past.push({ schedule: page.schedule, cursor: page.cursor });
     if (page.past.length > UNDONE) page.past.shift();
     page.future = [];
-    address.isFrozen = false;
+    freeAddress();
   }
   Object.assign(page, { schedule, whole });
   dock.ask = null;
@@ -157,12 +157,10 @@ function change(prefix, from, what) {
   return true;
 }
 
-// Opens a schedule if the program accepts it. Otherwise shows the reason.
-function open(schedule, cursor, isKept) {
+// Says why the program does not accept a schedule, or returns null if it does.
+function mistakeIn(schedule) {
   const answer = core.call(['check'], asScenario(schedule));
-  if (answer.status === 0) return become(schedule, cursor ?? schedule.events.length, isKept);
-  say(`This is not a schedule: ${wordsOf(answer.said)}`);
-  return false;
+  return answer.status === 0 ? null : wordsOf(answer.said);
 }
 
 // ---- random events
@@ -338,13 +336,14 @@ function startStep(number) {
 async function openAddress(isFirst) {
   const { hash } = location, link = await readLink(hash);
   showStep(link ? link.step : lesson.step);
-  if (link && open(link.schedule, link.cursor, !isFirst)) return;
+  const mistake = link && mistakeIn(link.schedule);
+  if (link && !mistake && become(link.schedule, link.cursor, !isFirst)) return;
   if (isFirst) {
     showStep(0);
     become(DATA.examples[DATA.first.example], DATA.first.cursor, false);
     if (hash.length <= 1) showHint(DATA.first.hint);
   }
-  if (hash.length > 1) showBadLink(link);
+  if (hash.length > 1) showBadLink(link, mistake);
 }
 
 // Waits until the browser has painted the page once, so that the first paint does not wait for the module. A hidden

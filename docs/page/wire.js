@@ -131,6 +131,8 @@ function wireStage() {
 
 function resized() {
   makeRoomForHint();
+  if (!$('bad-link').hidden) makeRoomForBadLink();
+  const { room } = picture;
   measure();
   if (!picture.svg) return;
   fitPicture(page.schedule.servers);
@@ -227,6 +229,7 @@ function wire() {
   wireComparison();
   wireTimeline();
   wireWays();
+  wireBadLink();
   fillKey(core);
   measure();
   addEventListener('keydown', keyed);
