@@ -49,9 +49,14 @@ def look(browser):
          "event 1, deliver 0 2: sent 1 Accepted from 2 to 0 instance 0 ballot 0", browser.text("#told"))
     with window(browser, 1280, 800):
         look_at_a_laptop(browser)
+    with window(browser, 1920, 1080):
+        look_at_a_large_window(browser)
     for width, height in ((390, 844), (640, 400)):
         with window(browser, width, height):
             look_at_a_narrow_window(browser, f"{width}×{height}")
+            look_below_the_tracks(browser, f"{width}×{height}")
+            look_at_a_mistake(browser, f"{width}×{height}")
+            look_at_a_message(browser, f"{width}×{height}")
 
 
 def look_at_contrasts(browser):
@@ -75,8 +80,28 @@ def look_at_a_laptop(browser):
       return [document.querySelector('header').offsetHeight, stage.scrollWidth, stage.clientWidth]""")
     same(browser, f"whether the header takes one line, {head} px", True, head < 60)
     same(browser, f"whether three servers fit, {wide} px in {room} px", True, wide <= room)
+    list_of_examples, left = browser.run("""const box = part => part.getBoundingClientRect();
+      const ends = [...document.querySelectorAll('header > :not(#steps, #view, #told)')].map(part => box(part).right);
+      return [document.getElementById('example').offsetWidth, box(document.getElementById('steps')).left - Math.max(...ends)]""")
+    same(browser, f"whether the list of examples, {list_of_examples} px, leaves {left:.0f} px of its line empty", False,
+         list_of_examples < 200 and left > 20)
     look_at_the_header_of_a_long_schedule(browser)
     look_at_a_difference(browser)
+    look_at_wide_tracks(browser)
+
+
+def look_at_wide_tracks(browser):
+    browser.open(moving_picture.link(moving_picture.many_events()))
+    browser.click("#tracks")
+    wide, room = browser.run("return ['lanes', 'view'].map(id => document.getElementById(id).offsetWidth)")
+    same(browser, f"whether the tracks, {wide} px, take the whole width of {room} px", True, wide >= room - 1)
+
+
+def look_at_a_large_window(browser):
+    """The first schedule and its hint fit into the window, so there is nothing to scroll."""
+    browser.open(URL)
+    long, room = browser.run("const stage = document.getElementById('stage'); return [stage.scrollHeight, stage.clientHeight]")
+    same(browser, f"whether the picture with its hint, {long} px, fits into {room} px", True, long <= room)
 
 
 def look_at_a_difference(browser):
@@ -124,6 +149,51 @@ def look_at_a_narrow_window(browser, what):
         name = browser.run("""const top = document.getElementById('heads').getBoundingClientRect().top;
           const stage = document.getElementById('stage').getBoundingClientRect().top; return Math.round(top - stage)""")
         same(browser, f"the distance of the names from the top at {what} after {place} events", 0, name)
+
+
+def look_below_the_tracks(browser, what):
+    """The tracks take much of a narrow window. Nevertheless, the row of the last event must be in sight."""
+    browser.open(moving_picture.link(moving_picture.many_events()))
+    browser.click("#tracks")
+    same(browser, f"the hidden parts below the tracks at {what}", [], browser.run(HIDDEN))
+    for place in (30, 31, 5):
+        act(browser, f"before {place}")
+        same(browser, f"the hidden parts below the tracks at {what} after {place} events", [], browser.run(HIDDEN))
+    low = "const end = document.documentElement.scrollHeight; scrollTo(0, end); const low = scrollY;"
+    browser.run(f"{low} window.low = low; document.getElementById('next').click()")
+    same(browser, f"whether a step moves a reader at the end of the page at {what}", False,
+         browser.run("return scrollY !== window.low"))
+
+
+# Whether the words of the line with a mistake are in the window and in front, also if the reader scrolls the page.
+MISTAKE = """const words = document.querySelector('#bad-link span');
+  const isSeen = y => { scrollTo(0, y); const box = words.getBoundingClientRect();
+    return document.elementFromPoint(box.left + 5, box.top + 5) === words; };
+  const found = [0, 200, 9999].map(isSeen);
+  scrollTo(0, 0);
+  return found"""
+
+
+def look_at_a_mistake(browser, what):
+    browser.open(URL + "#n=3&at=0&e=deliver+00+0")
+    browser.run("document.getElementById('toast').classList.remove('seen')")
+    same(browser, f"whether the mistake in a link is in sight at {what}", [True] * 3, browser.run(MISTAKE))
+    line, names = browser.run("""const stage = document.getElementById('stage');
+      scrollTo(0, scrollY + stage.getBoundingClientRect().top - document.getElementById('bad-link').offsetHeight);
+      return [document.getElementById('bad-link').getBoundingClientRect().bottom,
+        document.getElementById('heads').getBoundingClientRect().top].map(Math.round)""")
+    same(browser, f"whether the names, at {names} px, are below the mistake, which ends at {line} px, at {what}", True,
+         names >= line - 1)
+    browser.click('#bad-link [data-to="nothing"]')
+    same(browser, f"whether the line can be closed at {what}", False,
+         browser.run("return document.getElementById('bad-link').offsetHeight > 0"))
+
+
+def look_at_a_message(browser, what):
+    """A long message takes the width of the window, so that it hides few rows."""
+    wide, room = browser.run("""say('word '.repeat(60));
+      return [document.getElementById('toast').offsetWidth, document.documentElement.clientWidth]""")
+    same(browser, f"whether a long message, {wide} px, takes most of {room} px at {what}", True, wide > 0.85 * room)
 
 
 # ---- what only Chromium can emulate

@@ -106,6 +106,7 @@ function showStrip() {
   if ($('view').hidden) return;
   if (strip.trace !== trace || strip.key !== filter.found.key) drawStrip(trace);
   showInStrip();
+  followRow();
 }
 
 // Shows the cursor in the strip, and the events that the picture shows.
@@ -165,6 +166,7 @@ function wireOverview() {
     $('tracks').setAttribute('aria-pressed', strip.hasTracks);
     drawStrip(page.whole.trace);
     showInStrip();
+    followRow();
   };
   const scrub = event => { if (event.buttons === 1) go(eventInStrip(event) + 1); };
   $('strip').onpointerdown = event => { $('strip').setPointerCapture(event.pointerId); scrub(event); };

@@ -249,6 +249,7 @@ function show() {
   markCursor(cursor);
   light(null);
   showOverview(page);
+  followRow();
   showBar();
   showTab();
   lookForAnswer(trace);

@@ -237,6 +237,18 @@ function showRow(row) {
   else if (stage.scrollTop < lowest) stage.scrollTop = lowest;
 }
 
+const NARROW = matchMedia('(max-width: 900px)');
+
+// In a narrow window, the page scrolls too. Scrolls it down if the parts above the picture push the row of the last
+// event below the window. A reader who has scrolled further down stays there.
+function followRow() {
+  const row = $('rows').querySelector('.here');
+  if (!NARROW.matches || !row) return;
+  const below = row.getBoundingClientRect().bottom - $('steps').getBoundingClientRect().top;
+  const above = $('stage').getBoundingClientRect().top - $('bad-link').offsetHeight;
+  if (below > 0 && above > 0) scrollBy(0, Math.min(below, above));
+}
+
 // The event of the row at a point of the picture, or null.
 function eventAt(y) {
   const inside = (y - $('drawing').getBoundingClientRect().top) / picture.zoom;

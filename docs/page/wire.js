@@ -140,6 +140,8 @@ function resized() {
   markCursor(page.cursor);
   sizeMarks();
   showPart();
+  // The height of a phone's window changes while the reader scrolls. Only a change of the width may move the page.
+  if (picture.room !== room) followRow();
 }
 
 // Makes the text of the editor the schedule of the page, if the program accepts it. Otherwise it stays a draft.
