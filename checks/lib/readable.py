@@ -49,6 +49,8 @@ def look(browser):
          "event 1, deliver 0 2: sent 1 Accepted from 2 to 0 instance 0 ballot 0", browser.text("#told"))
     with window(browser, 1280, 800):
         look_at_a_laptop(browser)
+    with window(browser, 1280, 600):
+        look_at_the_top_of_a_step(browser)
     with window(browser, 1920, 1080):
         look_at_a_large_window(browser)
     for width, height in ((390, 844), (640, 400)):
@@ -57,6 +59,7 @@ def look(browser):
             look_below_the_tracks(browser, f"{width}×{height}")
             look_at_a_mistake(browser, f"{width}×{height}")
             look_at_a_message(browser, f"{width}×{height}")
+            look_at_narrow_parts(browser, f"{width}×{height}")
 
 
 def look_at_contrasts(browser):
@@ -88,6 +91,20 @@ def look_at_a_laptop(browser):
     look_at_the_header_of_a_long_schedule(browser)
     look_at_a_difference(browser)
     look_at_wide_tracks(browser)
+
+
+TOP_OF_PANEL = """const title = document.querySelector('#step h2').getBoundingClientRect().top;
+  return [title - document.querySelector('nav').getBoundingClientRect().bottom, innerHeight - title].map(Math.round)"""
+
+
+def look_at_the_top_of_a_step(browser):
+    """A new step begins with its title, also if the button for it was at the end of a long step."""
+    browser.open(URL)
+    for step in ('[data-way="learn"]', '#lessons [data-step="9"]', '#step .acts [data-step="10"]'):
+        browser.click(step)
+        below, room = browser.run(TOP_OF_PANEL)
+        same(browser, f"whether the title is {below} px below the tabs, and {room} px above the end, after {step}", True,
+             below >= 0 and room > 0)
 
 
 def look_at_wide_tracks(browser):
@@ -194,6 +211,33 @@ def look_at_a_message(browser, what):
     wide, room = browser.run("""say('word '.repeat(60));
       return [document.getElementById('toast').offsetWidth, document.documentElement.clientWidth]""")
     same(browser, f"whether a long message, {wide} px, takes most of {room} px at {what}", True, wide > 0.85 * room)
+
+
+def look_at_narrow_parts(browser, what):
+    """Long numbers stay in the bar of the steps. The words of an empty picture, and a new step, are in sight."""
+    events = [f"execute {place % 3}" for place in range(12345)]
+    files.drop(browser, "long.json", json.dumps({"version": 1, "servers": 3, "events": events}))
+    beyond = browser.run("""const bar = document.getElementById('steps').getBoundingClientRect();
+      return [...document.querySelectorAll('#steps > *')].filter(part =>
+        part.scrollWidth > part.clientWidth + 1 || part.getBoundingClientRect().right > bar.right).map(part => part.id)""")
+    same(browser, f"the parts that are cut off in the bar of the steps at {what}", [], beyond)
+    browser.open(URL + "#n=3&at=0&e=")
+    right, room = browser.run("""return [document.getElementById('empty').getBoundingClientRect().right,
+      document.documentElement.clientWidth].map(Math.round)""")
+    same(browser, f"whether the words of an empty picture end, at {right} px, inside {room} px at {what}", True, right <= room)
+    is_seen = browser.run("""scrollTo(0, 0);
+      const step = document.querySelector('#lessons [data-step="9"]');
+      step.focus();
+      const { left, top, width, height } = step.getBoundingClientRect();
+      return document.elementFromPoint(left + width / 2, top + height / 2) === step""")
+    same(browser, f"whether a button below the picture is in sight once it has the focus at {what}", True, is_seen)
+    browser.click('#lessons [data-step="9"]')
+    browser.run("document.querySelector('#step .acts [data-step=\"10\"]').focus()")
+    browser.click('#step .acts [data-step="10"]')
+    below, room = browser.run(TOP_OF_PANEL)
+    same(browser, f"whether the title of the next step is {room} px above the end of the window at {what}", True,
+         below >= 0 and 0 < room < 10_000 and browser.run("return document.querySelector('#step h2')"
+                                                          ".getBoundingClientRect().top >= 0"))
 
 
 # ---- what only Chromium can emulate

@@ -79,7 +79,7 @@ async function keepAddress() {
   Object.assign(address, { written: location.hash, isWhole: link !== null });
   $('kept').className = address.isWhole ? '' : 'bad';
   $('kept').textContent = address.isWhole ? 'The address contains the schedule.'
-    : 'This schedule is too long for the address. Click JSON to save it.';
+    : 'This schedule is too long for the address. JSON saves it.';
 }
 
 // Whether something would be lost if the page was closed.
@@ -121,7 +121,7 @@ function hideBadLink() {
 
 // In narrow windows, the names of the servers stay in sight below the line.
 function makeRoomForBadLink() {
-  document.body.style.setProperty('--warn', `${$('bad-link').offsetHeight}px`);
+  document.documentElement.style.setProperty('--warn', `${$('bad-link').offsetHeight}px`);
 }
 
 function goToDraft() {

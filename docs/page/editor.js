@@ -186,5 +186,6 @@ function keptInWords(w) {
   const open = w[10] === '0' ? 'No server executed a command.'
     : `Whether ${repliesOf(+w[10])} to commands that are in no history ${w[10] === '1' ? 'is' : 'are'} right could not`
     + ' be judged.';
-  return `${kept} But that says too little. ${open}`;
+  const seen = w[6] === '0' && w[8] !== '0' ? ' “mencius judge --clients” judges logs without executions.' : '';
+  return `${kept} But that says too little. ${open}${seen}`;
 }

@@ -332,6 +332,14 @@ function startStep(number) {
   showStep(number);
   const step = DATA.lessons[number - 1];
   if (step) become(step.schedule, 0);
+  showTopOfPanel();
+}
+
+// A new step is read from its start. In a narrow window, the page scrolls instead of the panel.
+function showTopOfPanel() {
+  const side = document.querySelector('aside');
+  side.scrollTop = 0;
+  if (side.getBoundingClientRect().top < 0) side.scrollIntoView();
 }
 
 async function openAddress(isFirst) {

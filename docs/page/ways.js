@@ -12,6 +12,7 @@ const WAYS = {
     startStep(1);
     focusPicture();
     $('lesson').scrollIntoView({ block: 'nearest' });
+    showTopOfPanel();
   },
   // Begins with a command on its way. Undo restores the former schedule.
   build() {
