@@ -134,6 +134,7 @@ function wireLog() {
   $('logs').add(new Option('the log of the schedule', ''));
   showLog(DATA.logs[$('logs').value = 'same_order']);
   $('logs').onchange = chooseLog;
+  $('clients').onchange = () => judgeLog(core);
   $('log').oninput = () => {
     hideWays();
     keepLog($('log').value);
@@ -141,26 +142,27 @@ function wireLog() {
   };
 }
 
-// Judges the log. A long one is judged in a worker, so that the page goes on.
+// Judges the log. A long one, or what clients saw, is judged in a worker, so that the page goes on.
 function judgeLog(core) {
-  const text = draft.judged;
+  const text = draft.judged, args = judgeArguments();
   judging.wanted = null;
   clearTimeout(later.timeline);
-  if (text.length <= JUDGED_AT_ONCE) {
-    showJudgement(text, core.call(['judge'], text));
+  // The search for an order may take long, even if the log is short.
+  if (text.length <= JUDGED_AT_ONCE && !$('clients').checked) {
+    showJudgement(text, core.call(args, text));
     return;
   }
   showVerdict('judgement', 'judging ..');
   showJudging();
   for (const id of ['quoted', 'in-words']) $(id).textContent = '';
   mark($('log'), null);
-  judgeInWorker(text, answer => showJudgement(text, answer));
+  judgeInWorker({ args, text }, answer => showJudgement(text, answer));
 }
 
 // Shows the verdict on a log, the lines that it quotes, and what it means. For a violation, the program says that.
 function showJudgement(text, answer) {
   const [verdict, ...quoted] = answer.printed.trim().split('\n'), words = verdict.split(' ');
-  const isBroken = words[0] === 'violation', sentence = isBroken ? quoted.pop() : '';
+  const isBroken = words[0] === 'violation', sentence = isBroken ? quoted.pop() ?? brokenInWords(words) : '';
   const said = verdict || wordsOf(answer.said);
   const isMarked = (isBroken || !verdict) && $('log').value === text;
   mark($('log'), isMarked ? placeOfMistake(text, isBroken ? `line ${words[1]}` : said) : null);
@@ -179,6 +181,7 @@ function badLineInWords(said) {
 }
 
 function keptInWords(w) {
+  if (isOnClients(w)) return seenInWords(w);
   const repliesOf = number => `${number} ${number === 1 ? 'reply' : 'replies'}`;
   const kept = `All ten promises are kept: ${count(+w[2], 'server')} executed ${w[6]} of ${count(+w[4], 'command')},`
     + ` ${repliesOf(w[8] - w[10])} and ${count(+w[12], 'lookup')} are right.`;
@@ -186,6 +189,6 @@ function keptInWords(w) {
   const open = w[10] === '0' ? 'No server executed a command.'
     : `Whether ${repliesOf(+w[10])} to commands that are in no history ${w[10] === '1' ? 'is' : 'are'} right could not`
     + ' be judged.';
-  const seen = w[6] === '0' && w[8] !== '0' ? ' “mencius judge --clients” judges logs without executions.' : '';
+  const seen = w[6] === '0' && w[8] !== '0' ? ' Choose “only what clients saw” to judge it without executions.' : '';
   return `${kept} But that says too little. ${open}${seen}`;
 }

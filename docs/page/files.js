@@ -8,15 +8,16 @@ const LONGEST_FILE = 100_000_000;
 
 // ---- the worker
 
-// `wanted` is the newest question, as { text, whenDone }, or null if nobody waits for an answer.
+// `wanted` is the newest question, as { question, whenDone }, or null if nobody waits for an answer. A question is
+// { args, text }.
 const judging = { worker: null, isBusy: false, wanted: null };
 
 // The script of the worker. It starts with the source of the class Core, and gets the compiled module first.
 function judgeForPage() {
   let core;
-  onmessage = ({ data: { module, text } }) => {
+  onmessage = ({ data: { module, args, text } }) => {
     if (module) core = new Core(module, () => {});
-    else postMessage(core.call(['judge'], text));
+    else postMessage(core.call(args, text));
   };
 }
 
@@ -29,25 +30,27 @@ function workerOf(module) {
 }
 
 // Judges a log in the worker. If another log is wanted in the meantime, the answer is dropped.
-function judgeInWorker(text, whenDone) {
-  judging.wanted = { text, whenDone };
+function judgeInWorker(question, whenDone) {
+  judging.wanted = { question, whenDone };
   if (judging.isBusy) return;
   judging.worker ??= workerOf(core.module);
   judging.isBusy = true;
-  judging.worker.onmessage = ({ data }) => answered(text, data);
+  judging.worker.onmessage = ({ data }) => answered(question, data);
   judging.worker.onerror = ({ message }) => {
     judging.worker = null;
-    answered(text, { status: 5, printed: '', said: `mencius: the worker stopped: ${message}\n` });
+    answered(question, { status: 5, printed: '', said: `mencius: the worker stopped: ${message}\n` });
   };
-  judging.worker.postMessage({ text });
+  judging.worker.postMessage(question);
 }
 
-function answered(text, answer) {
+const isSameQuestion = (one, other) => one.text === other.text && one.args.join() === other.args.join();
+
+function answered(question, answer) {
   const { wanted } = judging;
   judging.isBusy = false;
   if (wanted === null) return;
-  if (wanted.text !== text) {
-    judgeInWorker(wanted.text, wanted.whenDone);
+  if (!isSameQuestion(wanted.question, question)) {
+    judgeInWorker(wanted.question, wanted.whenDone);
     return;
   }
   judging.wanted = null;

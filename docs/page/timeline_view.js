@@ -13,12 +13,19 @@ const board = { timeline: null, first: 0, last: -1, lit: null, place: null };
 
 // Shows the timeline of a log with the verdict of the program. `printed` and `said` are its texts.
 function fillTimeline(text, { printed, said }) {
-  const quoted = [...(printed || said).matchAll(/^line (\d+): (.*)$/gm)]
+  const found = [...(printed || said).matchAll(/^line (\d+): (.*)$/gm)]
     .map(([, number, content]) => ({ number: +number, text: content }));
+  const quoted = found.length > 0 ? found : lineOfViolation(text, printed);
   const numbers = quoted.map(({ number }) => number).sort((one, other) => one - other);
   const timeline = new Timeline(numbers);
   const isLong = text.length > JUDGED_AT_ONCE, show = () => showTimeline(timeline, printed ? quoted : []);
   inPieces('timeline', timeline.reading(text), isLong, show);
+}
+
+// The line that a violation names. For what clients saw, the program quotes no lines.
+function lineOfViolation(text, printed) {
+  const number = +/^violation (\d+) /.exec(printed)?.[1], place = number ? placeOfLine(text, number) : null;
+  return place ? [{ number, text: text.slice(...place) }] : [];
 }
 
 // Shows a timeline that has read its log. `quoted` are the quoted lines that get a button.
