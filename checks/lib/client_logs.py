@@ -43,6 +43,11 @@ def look(browser):
                  "the verdict without histories")
     same(browser, "whether the words name the other judgement", True,
          browser.text("#in-words").endswith("Choose “only what clients saw” to judge it without executions."))
+    off = browser.run("""const box = document.getElementById('clients'), range = document.createRange();
+      const middle = part => part.getBoundingClientRect().top + part.getBoundingClientRect().height / 2;
+      range.selectNodeContents(box.nextSibling);
+      return Math.abs(middle(box) - middle(range))""")
+    same(browser, f"whether the words next to the box, {off:.1f} px off, are at its height", True, off <= 2)
     browser.click("#clients")
     for old, new, verdict, words, quoted in TRIALS:
         browser.write("#log", LOG.replace(old, new) if old else LOG)
