@@ -54,6 +54,10 @@ def look(browser):
     with window(browser, 1920, 1080):
         look_at_a_large_window(browser)
     for width, height in ((390, 844), (640, 400)):
+        browser.open(URL)
+        with window(browser, width, height):
+            browser.wait(f"return (() => {{ {HIDDEN} }})().length === 0",
+                         f"the row of the last event, after the window shrank to {width}×{height}")
         with window(browser, width, height):
             look_at_a_narrow_window(browser, f"{width}×{height}")
             look_below_the_tracks(browser, f"{width}×{height}")

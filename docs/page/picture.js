@@ -224,14 +224,14 @@ function showLane(event) {
   if (!isSeen) stage.scrollLeft = middle - (stage.clientWidth + column) / 2;
 }
 
-// Scrolls the stage so that a row is between the servers' names and the dock.
+// Scrolls the stage so that a row is between the servers' names and the dock. A hint is above the names.
 function showRow(row) {
   const stage = $('stage'), isSticky = getComputedStyle($('dock')).position === 'sticky';
   if (!isSticky) return;
   if (!row) { stage.scrollTop = 0; return; }
   const origin = $('picture').offsetTop, above = $('heads').offsetHeight, below = $('dock').offsetHeight;
   const top = origin + row.top * picture.zoom, bottom = top + row.height * picture.zoom;
-  const seen = stage.clientHeight - below;
+  const seen = stage.clientHeight - below - $('hint').offsetHeight;
   const highest = top - above - 40, lowest = bottom - seen + 60;
   if (stage.scrollTop > highest || lowest > highest) stage.scrollTop = highest;
   else if (stage.scrollTop < lowest) stage.scrollTop = lowest;
