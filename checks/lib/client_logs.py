@@ -23,8 +23,10 @@ TRIALS = [
     ("reply 2.1 none\n", "", "linearizable commands 5 replies 4 lost 1 keys 2", "An order of the 5 commands explains"
      " all replies, which are 4. 1 command without a reply may have taken effect or not.", []),
     # Nobody wrote z.
-    ("reply 3.0 =x", "reply 3.0 =z", "violation 6 Linearizable key a", "No order of the commands of a explains the"
-     " replies up to line 6. An order explains those before this line.", ["reply 3.0 =z"]),
+    ("reply 3.0 =x", "reply 3.0 =z", "violation 6 Linearizable key a", "No order of the commands fits the last of these"
+     " replies. In an order, a command comes after those that had a reply before it was submitted, and a map gives each"
+     " reply. The last reply could be =y or =x instead.",
+     ["submit 1.0 set a x", "submit 2.0 set a y", "reply 1.0 none", "submit 3.0 get a", "reply 2.0 =x", "reply 3.0 =z"]),
     ("reply 2.1 none", "reply 1.0 =x", "violation 10 OneReply command 1.0 expected none found =x",
      "The command had a different reply before.", ["reply 1.0 =x"]),
     ("submit 2.1 get b", "submit 1.0 get b", "violation 9 OneCommand command 1.0",

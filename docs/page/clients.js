@@ -22,10 +22,8 @@ function seenInWords(w) {
 }
 
 // What a violation means for which the program prints no sentence.
-function brokenInWords([, line, promise, , key]) {
+function brokenInWords([, , promise]) {
   return {
-    Linearizable: `No order of the commands of ${key} explains the replies up to line ${line}. An order explains those`
-      + ' before this line.',
     OneCommand: 'A different command was submitted under this identity before.',
     Submitted: 'The command with this reply was never submitted.',
     OneReply: 'The command had a different reply before.',

@@ -22,7 +22,7 @@ function fillTimeline(text, { printed, said }) {
   inPieces('timeline', timeline.reading(text), isLong, show);
 }
 
-// The line that a violation names. For what clients saw, the program quotes no lines.
+// The line that a violation names. For some violations of what clients saw, the program quotes no lines.
 function lineOfViolation(text, printed) {
   const number = +/^violation (\d+) /.exec(printed)?.[1], place = number ? placeOfLine(text, number) : null;
   return place ? [{ number, text: text.slice(...place) }] : [];
