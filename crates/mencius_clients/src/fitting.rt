@@ -20,9 +20,14 @@ use std::alloc::Global;
 // The greatest number of different texts that are tried.
 const MOST_TEXTS: usize = 16;
 
+// The greatest number of lines about the key. Each text takes a search over all of them, and with this many lines such a
+// search takes about a tenth of a second.
+const MOST_LINES: usize = 10_000;
+
 /// Returns answers that would fit as the reply at this line: the lines about the key before it, and then the reply with
 /// this answer, have a linearization. It tries the last 16 different texts that these lines write, the last one first,
-/// and then no text. It leaves out an answer if the search for it is given up.
+/// and then no text. It leaves out an answer if the search for it is given up. If more than 10,000 lines are about the
+/// key, it tries none.
 pub fn fitting_answers(
     alloc: Global,
     log: &[Observation],
@@ -38,6 +43,9 @@ pub fn fitting_answers(
         return Ok(Vec::new(alloc));
     };
     let lines = lines_of_key(alloc, &log[..line], key)?;
+    if lines.len() > MOST_LINES {
+        return Ok(Vec::new(alloc));
+    }
     fitting_after(alloc, lines, id, limit)
 }
 
