@@ -7,15 +7,17 @@
 `./check --record` calls it. The first form fails unless the clone is a commit without changes. The second form reads
 what ./check kept in FOLDER:
 
-    said              the output of `rt ci`
+    crates            the output of the check `crates`, which is that of `rt ci`
+    edits             the output of the check `edits`
+    NAME.before       the output of `times` of sh before these two checks
+    NAME.after        the same after them
     began             the time at which the run began, in seconds since 1970
     commit            the commit at that time
     passed            a line for each check that passed
     skipped           a line for each part that a check skipped, if there is one
-    before, after     the output of `times` of sh before and after the check `crates`
 
-It writes no record if the commit or a file has changed since the run began, or if the output of `rt ci` lacks a crate
-or contains another number of edits than its last lines say.
+It writes no record if the commit or a file has changed since the run began, or if the output of `rt ci` lacks a crate,
+or if the output of `edits` contains another number of edits than its last line says.
 """
 import os
 import re
@@ -38,7 +40,7 @@ it took place. With the kit, `./check` repeats it ([how](CHANGING.md#builds-and-
 CRATES = """
 ## The crates
 
-`rt ci` proves the crates and their tests, and tries their edits. Its last lines were:
+`rt ci` proves the crates and their tests. `checks/edits` tries the edits of the crates. Their last lines were:
 
 ```text
 {end}
@@ -82,7 +84,7 @@ def can_record():
         sys.exit(f"check: a record names the commit, so commit these changes first:\n{changed}")
 
 
-# ---- the output of rt ci
+# ---- the output of rt ci and of checks/edits
 
 # The numbers of a crate, in the order of the columns of the table.
 KINDS = ("functions", "waits", "edits", "of_tests", "tests")
@@ -102,9 +104,6 @@ def crates_of(said):
             waits = re.search(r"\bmay-wait=(\d+)", found[2])
             if waits and not of_tests:
                 crate["waits"] = int(waits[1])
-        elif found := re.match(r"rt: must-fail (\w+)/\S+: refused, as it must be", line):
-            of = crates.setdefault(found[1], {})
-            of["edits"] = of.get("edits", 0) + 1
         elif found := re.match(r"test result: ok\D+(\d+) passed", line):
             tests = int(found[1])
         elif (found := re.match(r"rt: (\w+): its tests passed", line)) and tests is not None:
@@ -113,16 +112,19 @@ def crates_of(said):
     return crates
 
 
-def checked(said, names):
-    """The crates in the output of `rt ci`, in the order of these names. Fails if the output is of other crates, or if
-    its last lines count other edits."""
+def checked(said, tried, names):
+    """The crates in the output of `rt ci`, in the order of these names, with the edits in the output of `checks/edits`.
+    Fails if one of them is of other crates, or if the second counts other edits in its last line."""
     crates = crates_of(said)
     if set(crates) != set(names):
         sys.exit(f"check: the output of rt ci is not of these crates: {', '.join(sorted(set(crates) ^ set(names)))}")
-    edits = sum(numbers.get("edits", 0) for numbers in crates.values())
-    counted = re.search(r"; must-fail edits: (\d+) refused", said)
-    if edits != (int(counted[1]) if counted else 0):
-        sys.exit(f"check: the output of rt ci has {edits} edits that were refused, but it counts others")
+    edits = re.findall(r"^checks/edits: (\w+)/\w+: refused, ", tried, re.M)
+    if f"checks/edits: {len(edits)} edits of {len(set(edits))} crates refused" not in tried.splitlines():
+        sys.exit(f"check: the output of checks/edits has {len(edits)} edits that were refused, but it counts others")
+    for name in edits:
+        if name not in crates:
+            sys.exit(f"check: the output of checks/edits has an unknown crate, {name}")
+        crates[name]["edits"] = crates[name].get("edits", 0) + 1
     return {name: crates[name] for name in names}
 
 
@@ -160,28 +162,33 @@ def machine():
 def facts(read):
     begin, end = time.gmtime(float(read("began"))), time.gmtime()
     day = "" if begin[:3] == end[:3] else "%Y-%m-%d, "
-    spent = minutes(read("after")) - minutes(read("before"))
-    (by_clock,) = re.findall(r"^check: crates passed after (\d+) s$", read("passed"), re.M)
     return {
         "Sources": f"commit `{read('commit').strip()}`",
         "Date": f"{time.strftime('%Y-%m-%d, from %H:%M UTC', begin)} to {time.strftime(day + '%H:%M UTC', end)}",
         "Kit": f"`{command('rt', 'version')}`, the output of `rt version`",
         "Machine": machine(),
-        "Command": "`./check --record`, which starts `rt ci` for the crates",
+        "Command": "`./check --record`, which starts `rt ci` and `checks/edits` for the crates",
         "Result": "every check passed, exit status 0",
-        "Time for the crates": f"{spent:.0f} processor minutes, {int(by_clock) / 60:.0f} minutes by the clock",
+        "Time for the crates": time_of(read, "crates"),
+        "Time for the edits": time_of(read, "edits"),
     }
 
 
+def time_of(read, name):
+    spent = minutes(read(f"{name}.after")) - minutes(read(f"{name}.before"))
+    (by_clock,) = re.findall(rf"^check: {name} passed after (\d+) s$", read("passed"), re.M)
+    return f"{spent:.0f} processor minutes, {int(by_clock) / 60:.0f} minutes by the clock"
+
+
 def page(read, names):
-    said = read("said")
-    crates = checked(said, names)
+    said, tried = read("crates"), read("edits")
+    crates = checked(said, tried, names)
     table = "".join(rows(crates))
     kept = "\n*Kept* means that an earlier run on this machine proved the same files." if " kept " in table else ""
     skipped = read("skipped").strip()
     skipped = SKIPPED.format(skipped=skipped) if skipped else NONE_SKIPPED
     return (HEAD + "".join(f"| {name} | {value} |\n" for name, value in facts(read).items())
-            + CRATES.format(end="\n".join(said.splitlines()[-2:]), kept=kept) + table
+            + CRATES.format(end="\n".join([*said.splitlines()[-2:], tried.splitlines()[-1]]), kept=kept) + table
             + CHECKS.format(passed=read("passed"), skipped=skipped))
 
 
