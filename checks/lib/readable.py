@@ -63,6 +63,8 @@ def look(browser):
             look_below_the_tracks(browser, f"{width}×{height}")
             look_at_a_mistake(browser, f"{width}×{height}")
             look_at_a_message(browser, f"{width}×{height}")
+            look_at_rows_below_a_message(browser, f"{width}×{height}")
+            look_at_labels_beside_the_events(browser, f"{width}×{height}")
             look_at_narrow_parts(browser, f"{width}×{height}")
 
 
@@ -215,6 +217,52 @@ def look_at_a_message(browser, what):
     wide, room = browser.run("""say('word '.repeat(60));
       return [document.getElementById('toast').offsetWidth, document.documentElement.clientWidth]""")
     same(browser, f"whether a long message, {wide} px, takes most of {room} px at {what}", True, wide > 0.85 * room)
+
+
+COVERED = """const box = selector => document.querySelector(selector).getBoundingClientRect();
+  const message = box('#toast'), row = box('#rows .here');
+  return message.top < row.bottom && row.top < message.bottom"""
+
+
+def look_at_rows_below_a_message(browser, what):
+    """A message stays for some seconds. It may not hide the row of the last event, also if a step moves the row."""
+    browser.open(moving_picture.link(moving_picture.many_events()))
+    for tracks in ("without tracks", "with tracks"):
+        for place in (20, 21, 48, 4):
+            act(browser, f"before {place}")
+            browser.run("say('word '.repeat(60))")
+            same(browser, f"whether a message hides the row at {what} after {place} events, {tracks}", False,
+                 browser.run(COVERED))
+        browser.run("scrollTo(0, 0); go(30); say('word '.repeat(60))")
+        for step in ("next", "back", "back"):
+            browser.run(f"document.getElementById('{step}').click()")
+            same(browser, f"whether a message hides the row at {what} after a step, {tracks}", False, browser.run(COVERED))
+        browser.click("#tracks")
+
+
+# The labels of the last event that are partly behind the list of the events, and those that are cut off at the right
+# although all labels of the event have room. The space next to a label is 10 px.
+HIDDEN_LABELS = """const box = part => part.getBoundingClientRect(), stage = document.getElementById('stage');
+  const from = box(document.getElementById('rows')).right, to = box(stage).left + stage.clientWidth;
+  const labels = [...document.querySelectorAll('#drawing .here :is(.cause, .says)')];
+  const [lefts, rights] = ['left', 'right'].map(side => labels.map(label => box(label)[side]));
+  const hasRoom = Math.max(...rights) - Math.min(...lefts) + 2 * 10 < to - from;
+  return labels.filter(label => box(label).left < from || (hasRoom && box(label).right > to)).map(label => label.textContent)"""
+
+
+def look_at_labels_beside_the_events(browser, what):
+    """The picture scrolls to the right, and the list of the events stays. The labels of the last event must be next to it,
+    also if they are as long as in the middle of a long schedule."""
+    late = [*moving_picture.many_events(10), *("deliver 0 0" for _ in range(60)), "deliver 2 0", "deliver 28 0", "deliver 28 1"]
+    for events in (moving_picture.LATE, late):
+        browser.open(moving_picture.link(events))
+        for place in range(len(events), max(0, len(events) - 12), -1):
+            act(browser, f"before {place}")
+            same(browser, f"the labels behind the events at {what} after {place} events", [], browser.run(HIDDEN_LABELS))
+    browser.choose("#example", "duelling_revokers")
+    for place in range(1, 20):
+        act(browser, f"before {place}")
+        same(browser, f"the hidden labels of an example at {what} after {place} events", [], browser.run(HIDDEN_LABELS))
 
 
 def look_at_narrow_parts(browser, what):

@@ -64,6 +64,15 @@ function fitBoxes(svg) {
 
 const laneOf = part => +/\((\d+)/.exec(part.closest('[transform]').getAttribute('transform'))[1];
 
+// How far the labels of an event reach to the left and to the right of its lane, in the picture's units.
+function reachOfLabels(svg, event) {
+  return ['cause', 'says'].map(kind => {
+    const labels = [...svg?.querySelectorAll(`[data-e="${event}"] .${kind}`) ?? []];
+    const widest = Math.max(0, ...labels.map(label => widthOfLabel(label, kind)));
+    return BESIDE[kind] + widest + 2 * PADDING + LINE;
+  });
+}
+
 // The left end and the right end of all labels, in the picture's units.
 function endsOfLabels(svg) {
   const lefts = [...svg.querySelectorAll('.cause')].map(label =>

@@ -20,8 +20,18 @@ const page = {
 function say(text, isUndoable = false) {
   $('toast').replaceChildren(text, ...isUndoable ? [' ', el('button', { 'data-undo': true }, 'undo')] : []);
   $('toast').classList.add('seen');
+  placeMessage();
   clearTimeout(say.timer);
   say.timer = setTimeout(() => $('toast').classList.remove('seen'), 5000);
+}
+
+// In a low window, the message would be in front of the row of the last event. Then it is at the top.
+function placeMessage() {
+  const toast = $('toast'), row = $('rows').querySelector('.here')?.getBoundingClientRect();
+  toast.classList.remove('above');
+  if (!row || !toast.classList.contains('seen')) return;
+  const { top, bottom } = toast.getBoundingClientRect();
+  toast.classList.toggle('above', top < row.bottom && row.top < bottom);
 }
 
 function later(name, wait, action) {

@@ -211,17 +211,19 @@ function markCursor(cursor) {
   band?.setAttribute('height', here?.height ?? 0);
   showNear(here);
   showRow(here);
-  if (cursor > 0) showLane(picture.drawn.schedule.events[cursor - 1]);
+  if (cursor > 0) showLane(cursor - 1);
 }
 
-// Scrolls the stage so that the lane of an event is in sight.
-function showLane(event) {
-  const words = event.split(' '), server = +words[['deliver', 'lose'].includes(words[0]) ? 2 : 1];
-  const stage = $('stage'), column = $('rows').offsetWidth, apart = APART * picture.zoom;
-  const middle = column + (FIRST_LANE - picture.left) * picture.zoom + server * apart;
-  const from = stage.scrollLeft + column, to = stage.scrollLeft + stage.clientWidth;
-  const isSeen = middle - apart / 2 >= from && middle + apart / 2 <= to;
-  if (!isSeen) stage.scrollLeft = middle - (stage.clientWidth + column) / 2;
+// Scrolls the stage so that the lane and the labels of an event are in sight. If there is no room for both labels, the
+// left one is in sight, because otherwise it would be behind the list of the events.
+function showLane(place) {
+  const words = picture.drawn.schedule.events[place].split(' ');
+  const server = +words[['deliver', 'lose'].includes(words[0]) ? 2 : 1];
+  const stage = $('stage'), { left, zoom, room } = picture, lane = (FIRST_LANE - left + server * APART) * zoom;
+  const [before, after] = reachOfLabels(picture.svg, place).map(reach => Math.max(reach, APART / 2) * zoom);
+  const first = lane + after - room, last = Math.max(lane - before, lane + BESIDE.cause - room);
+  const isSeen = first <= stage.scrollLeft && stage.scrollLeft <= last;
+  if (!isSeen) stage.scrollLeft = Math.min(last, Math.max(first, lane - room / 2));
 }
 
 // Scrolls the stage so that a row is between the servers' names and the dock. A hint is above the names.
@@ -243,10 +245,12 @@ const NARROW = matchMedia('(max-width: 900px)');
 // event below the window. A reader who has scrolled further down stays there.
 function followRow() {
   const row = $('rows').querySelector('.here');
-  if (!NARROW.matches || !row) return;
-  const below = row.getBoundingClientRect().bottom - $('steps').getBoundingClientRect().top;
-  const above = $('stage').getBoundingClientRect().top - $('bad-link').offsetHeight;
-  if (below > 0 && above > 0) scrollBy(0, Math.min(below, above));
+  if (NARROW.matches && row) {
+    const below = row.getBoundingClientRect().bottom - $('steps').getBoundingClientRect().top;
+    const above = $('stage').getBoundingClientRect().top - $('bad-link').offsetHeight;
+    if (below > 0 && above > 0) scrollBy(0, Math.min(below, above));
+  }
+  placeMessage();
 }
 
 // The event of the row at a point of the picture, or null.
