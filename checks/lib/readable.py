@@ -49,6 +49,7 @@ def look(browser):
          "event 1, deliver 0 2: sent 1 Accepted from 2 to 0 instance 0 ballot 0", browser.text("#told"))
     with window(browser, 1280, 800):
         look_at_a_laptop(browser)
+    look_at_senders(browser)
     with window(browser, 1280, 600):
         look_at_the_top_of_a_step(browser)
     with window(browser, 1920, 1080):
@@ -65,6 +66,7 @@ def look(browser):
             look_at_a_message(browser, f"{width}×{height}")
             look_at_rows_below_a_message(browser, f"{width}×{height}")
             look_at_labels_beside_the_events(browser, f"{width}×{height}")
+            look_at_a_log(browser, f"{width}×{height}")
             look_at_narrow_parts(browser, f"{width}×{height}")
 
 
@@ -95,6 +97,7 @@ def look_at_a_laptop(browser):
     same(browser, f"whether the list of examples, {list_of_examples} px, leaves {left:.0f} px of its line empty", False,
          list_of_examples < 200 and left > 20)
     look_at_the_header_of_a_long_schedule(browser)
+    look_at_a_log(browser, "1280×800")
     look_at_a_difference(browser)
     look_at_wide_tracks(browser)
 
@@ -253,16 +256,42 @@ HIDDEN_LABELS = """const box = part => part.getBoundingClientRect(), stage = doc
 def look_at_labels_beside_the_events(browser, what):
     """The picture scrolls to the right, and the list of the events stays. The labels of the last event must be next to it,
     also if they are as long as in the middle of a long schedule."""
-    late = [*moving_picture.many_events(10), *("deliver 0 0" for _ in range(60)), "deliver 2 0", "deliver 28 0", "deliver 28 1"]
+    again = ["deliver 0 0"] * 60
+    late = [*moving_picture.many_events(10), *again, "deliver 2 0", "submit 1 2.0 set a y", "deliver 30 2", "deliver 30 1"]
     for events in (moving_picture.LATE, late):
         browser.open(moving_picture.link(events))
-        for place in range(len(events), max(0, len(events) - 12), -1):
+        for place in range(len(events), len(events) - 12, -1):
             act(browser, f"before {place}")
             same(browser, f"the labels behind the events at {what} after {place} events", [], browser.run(HIDDEN_LABELS))
     browser.choose("#example", "duelling_revokers")
     for place in range(1, 20):
         act(browser, f"before {place}")
         same(browser, f"the hidden labels of an example at {what} after {place} events", [], browser.run(HIDDEN_LABELS))
+
+
+def look_at_senders(browser):
+    """A phone has no room for the event that sent a message far above. The label has it again in a wider window."""
+    browser.open(moving_picture.link(moving_picture.LATE))
+    for width, wanted in ((390, False), (844, True), (390, False)):
+        has = f"return document.getElementById('drawing').textContent.includes({json.dumps(moving_picture.LONGEST)})"
+        with window(browser, width, 844):
+            browser.wait(f"return innerWidth === {width} && {json.dumps(wanted)} === (() => {{ {has} }})()",
+                         f"the label {moving_picture.LONGEST} at {width} px to be shown: {wanted}")
+
+
+def look_at_a_log(browser, what):
+    """Some lines of the log must be in sight, and no message hides the words below them."""
+    browser.open(URL)
+    files.drop(browser, "right_reply.log", files.read("logs", "right_reply.log"))
+    browser.wait("return document.getElementById('timeline-verdict').textContent.startsWith('violation')", "the verdict")
+    rows, above, below = browser.run("""const box = id => document.getElementById(id).getBoundingClientRect();
+      const rows = (document.getElementById('log-stage').clientHeight - box('lane-heads').height) / 24;
+      return [rows, box('command-card').top - box('toast').bottom, box('toast').top - box('command-card').bottom]""")
+    same(browser, f"whether {rows:.1f} lines of a log are in sight at {what}", True, rows >= 4)
+    same(browser, f"whether the message is {above:.0f} px above the words or {below:.0f} px below them at {what}", True,
+         above >= 0 or below >= 0)
+    # Chromium complains if a page with a log of its own is left without a click of a user.
+    browser.click("#tab-lesson")
 
 
 def look_at_narrow_parts(browser, what):

@@ -29,6 +29,20 @@ function letterWidth() {
 
 const widthOfLabel = (label, kind) => label.textContent.length * LETTERS[kind] * letterWidth();
 
+// In pixels. In a narrower picture, the event that sent a message would take the room of the result.
+const ROOM_FOR_SENDERS = 400;
+
+const hasRoomForSenders = room => room >= ROOM_FOR_SENDERS;
+
+// Takes the events that sent the messages out of the labels if there is no room for them. The cards of the messages
+// contain them too.
+function shortenLabels(svg, room) {
+  if (hasRoomForSenders(room)) return;
+  for (const label of svg.querySelectorAll('.cause')) {
+    label.textContent = label.textContent.replace(/ from event \d+$/, '');
+  }
+}
+
 // Puts the arrows, which are below the labels and marks, into one group.
 function layArrowsBelow(svg) {
   const arrows = svg.querySelectorAll('.way');
@@ -65,9 +79,9 @@ function fitBoxes(svg) {
 const laneOf = part => +/\((\d+)/.exec(part.closest('[transform]').getAttribute('transform'))[1];
 
 // How far the labels of an event reach to the left and to the right of its lane, in the picture's units.
-function reachOfLabels(svg, event) {
+function reachesOf(svg, event) {
   return ['cause', 'says'].map(kind => {
-    const labels = [...svg?.querySelectorAll(`[data-e="${event}"] .${kind}`) ?? []];
+    const labels = [...svg.querySelectorAll(`[data-e="${event}"] .${kind}`)];
     const widest = Math.max(0, ...labels.map(label => widthOfLabel(label, kind)));
     return BESIDE[kind] + widest + 2 * PADDING + LINE;
   });

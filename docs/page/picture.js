@@ -113,6 +113,7 @@ function cutDrawing(svg, schedule, list) {
   for (const part of svg.querySelectorAll('.foot, .key, .place, .what, style, :scope > title')) part.remove();
   const rows = fold(svg, rowsOfPicture(svg), list), bottom = bottomOf(svg);
   layArrowsBelow(svg);
+  shortenLabels(svg, picture.room);
   backLabels(svg);
   fitBoxes(svg);
   setFarAside(svg);
@@ -211,17 +212,17 @@ function markCursor(cursor) {
   band?.setAttribute('height', here?.height ?? 0);
   showNear(here);
   showRow(here);
-  if (cursor > 0) showLane(cursor - 1);
+  if (cursor > 0 && picture.svg) showLane(cursor - 1);
 }
 
 // Scrolls the stage so that the lane and the labels of an event are in sight. If there is no room for both labels, the
 // left one is in sight, because otherwise it would be behind the list of the events.
 function showLane(place) {
-  const words = picture.drawn.schedule.events[place].split(' ');
-  const server = +words[['deliver', 'lose'].includes(words[0]) ? 2 : 1];
-  const stage = $('stage'), { left, zoom, room } = picture, lane = (FIRST_LANE - left + server * APART) * zoom;
-  const [before, after] = reachOfLabels(picture.svg, place).map(reach => Math.max(reach, APART / 2) * zoom);
-  const first = lane + after - room, last = Math.max(lane - before, lane + BESIDE.cause - room);
+  const stage = $('stage'), { drawn, svg, left, zoom, room } = picture;
+  const words = drawn.schedule.events[place].split(' '), server = +words[['deliver', 'lose'].includes(words[0]) ? 2 : 1];
+  const lane = (FIRST_LANE - left + server * APART) * zoom;
+  const [before, after] = reachesOf(svg, place).map(reach => Math.max(reach, APART / 2) * zoom);
+  const last = Math.max(lane - before, lane + BESIDE.cause - room), first = Math.min(lane + after - room, last);
   const isSeen = first <= stage.scrollLeft && stage.scrollLeft <= last;
   if (!isSeen) stage.scrollLeft = Math.min(last, Math.max(first, lane - room / 2));
 }

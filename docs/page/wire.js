@@ -129,12 +129,18 @@ function wireStage() {
   new ResizeObserver(resized).observe($('stage'));
 }
 
+function drawAgain() {
+  picture.drawn = null;
+  drawPicture(core, page);
+}
+
 function resized() {
   makeRoomForHint();
   if (!$('bad-link').hidden) makeRoomForBadLink();
   const { room } = picture;
   measure();
   if (!picture.svg) return;
+  if (hasRoomForSenders(room) !== hasRoomForSenders(picture.room)) drawAgain();
   fitPicture(page.schedule.servers);
   fillRows(page.schedule);
   markCursor(page.cursor);
