@@ -84,7 +84,7 @@ def insert_into_a_drawn_schedule(browser, place, event):
         del left[:at + 1]
     gone = len(before) - len(after)
     says = browser.text("#toast")
-    told = re.search(r"The messages of (\d+) later", says)
+    told = re.search(r"(\d+) later events? ha(?:s|ve) a message that says", says)
     same(browser, f"the altered messages that the page counts: {says}", altered, int(told.group(1)) if told else 0)
     same(browser, f"whether the page tells of missing events: {says}", gone > 0, "Nobody sends" in says)
     same(browser, f"whether most events stay after `{event}` at {place}", True, gone < 20)

@@ -11,6 +11,7 @@ def look(browser):
     compare_with_reports(browser)
     keep_equal_parts(browser)
     look_at_the_blocking_instance(browser)
+    look_at_a_vote_in_vain(browser)
     look_at_a_map(browser)
     look_at_many_replies(browser)
 
@@ -94,6 +95,19 @@ def look_at_the_blocking_instance(browser):
     browser.click("#back")
     same(browser, "the cells that the first acceptance changed", ["proposed 2.8, accepted by 1 of 2 set a v8"],
          texts(browser, "#dock .changed"))
+
+
+# Server 2 accepts 1.0 (message 1), but servers 0 and 1 promise ballot 4 without a vote (3, 4). Server 1 proposes a no-op
+# (5), both accept it (6, 7), and server 2 learns it (8).
+VAIN = ["submit 0 1.0 set a x", "deliver 0 2", "suspect 1 0", "deliver 2 1", "deliver 2 0", "deliver 3 1", "deliver 4 1",
+        "deliver 5 1", "deliver 5 0", "deliver 6 1", "deliver 7 1", "deliver 8 2"]
+
+
+def look_at_a_vote_in_vain(browser):
+    """The command is next to its identity, also if the server accepted it and then learned something else."""
+    browser.open(link(3, VAIN))
+    same(browser, "the row of a server that accepted one value and learned another", ["i0", "–", "1.0 @b0 set a x", "no-op"],
+         texts(browser, '#dock [data-server="2"] tbody tr:first-child > *'))
 
 
 def look_at_a_map(browser):

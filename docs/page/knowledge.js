@@ -41,11 +41,12 @@ function rowsOf({ schedule, trace }, server, instance) {
   const command = value => (trace.commands.has(value) ? el('small', {}, ` ${trace.commands.get(value)}`) : null);
   // Two parts, because a narrow card shows the ballot of a vote below its value.
   const voted = vote ? [vote.value, `@b${vote.ballot}`].map(part => el('span', {}, part)) : [written(null)];
+  const isTwice = learned !== null && learned === vote?.value;
   const title = isNext ? 'the server executes this instance next' : null;
   const first = el('tr', { class: isNext ? 'next' : null, title },
     el('th', { scope: 'row', class: ownerOf(instance, schedule.servers) }, `i${instance}`),
     cell('promised', '', written(promised ? `b${promised}` : null)),
-    cell('vote', 'vote', ...voted, learned ? '' : command(vote?.value) ?? ''),
+    cell('vote', 'vote', ...voted, isTwice ? '' : command(vote?.value) ?? ''),
     cell('learned', 'learned-value', written(learned), command(learned)));
   const told = learned ? [] : attemptOf(slot);
   if (told.length === 0) return [first];

@@ -159,7 +159,8 @@ function change(prefix, from, what) {
   const { gone, altered, refused } = made, some = gone.slice(0, 4).join(', ') + (gone.length > 4 ? ' ..' : '');
   const parts = [what];
   if (gone.length) parts.push(`Nobody sends the messages of these events now, so they are gone: ${some}.`);
-  if (altered) parts.push(`The messages of ${count(altered, 'later event')} say something else now.`);
+  if (altered) parts.push(`${count(altered, 'later event')} ${altered === 1 ? 'has' : 'have'} a message that says something`
+    + ' else now.');
   if (refused) parts.push(`${count(refused, 'later event')} ${refused === 1 ? 'is' : 'are'} refused now.`);
   const isWhole = prefix.events.length === made.schedule.events.length;
   if (parts.length > 1) say(parts.join(' '), true);

@@ -219,8 +219,8 @@ function markCursor(cursor) {
 // left one is in sight, because otherwise it would be behind the list of the events.
 function showLane(place) {
   const stage = $('stage'), { drawn, svg, left, zoom, room } = picture;
-  const words = drawn.schedule.events[place].split(' '), server = +words[['deliver', 'lose'].includes(words[0]) ? 2 : 1];
-  const lane = (FIRST_LANE - left + server * APART) * zoom;
+  const words = drawn.schedule.events[place].split(' '), isWay = ['deliver', 'lose'].includes(words[0]);
+  const lane = (FIRST_LANE - left + APART * +words[isWay ? 2 : 1]) * zoom;
   const [before, after] = reachesOf(svg, place).map(reach => Math.max(reach, APART / 2) * zoom);
   const last = Math.max(lane - before, lane + BESIDE.cause - room), first = Math.min(lane + after - room, last);
   const isSeen = first <= stage.scrollLeft && stage.scrollLeft <= last;
