@@ -67,6 +67,8 @@ def look(browser):
             look_at_rows_below_a_message(browser, f"{width}×{height}")
             look_at_labels_beside_the_events(browser, f"{width}×{height}")
             look_at_a_log(browser, f"{width}×{height}")
+            look_at_the_focus_below_the_lanes(browser, f"{width}×{height}")
+            look_at_choices_below_a_message(browser, f"{width}×{height}")
             look_at_narrow_parts(browser, f"{width}×{height}")
 
 
@@ -98,6 +100,7 @@ def look_at_a_laptop(browser):
          list_of_examples < 200 and left > 20)
     look_at_the_header_of_a_long_schedule(browser)
     look_at_a_log(browser, "1280×800")
+    look_at_the_focus_below_the_lanes(browser, "1280×800")
     look_at_a_difference(browser)
     look_at_wide_tracks(browser)
 
@@ -241,6 +244,48 @@ def look_at_rows_below_a_message(browser, what):
             browser.run(f"document.getElementById('{step}').click()")
             same(browser, f"whether a message hides the row at {what} after a step, {tracks}", False, browser.run(COVERED))
         browser.click("#tracks")
+
+
+# What has the focus, whether its middle and its left end are in front, and how far the picture is scrolled.
+FOCUSED = """const part = document.activeElement, { left, top, width, height } = part.getBoundingClientRect();
+  const isSeen = x => part.contains(document.elementFromPoint(x, top + height / 2));
+  return [part.dataset.do ?? part.id, isSeen(left + width / 2) && isSeen(left + 4), document.getElementById('stage').scrollTop]"""
+
+
+def look_at_the_focus_below_the_lanes(browser, what):
+    """The Tab key goes through the buttons below the lanes. The row of the last event stays where it is, and no button
+    with the focus is behind the summary at the left."""
+    browser.open(moving_picture.link(moving_picture.many_events(20)))
+    act(browser, "before 61")
+    browser.run("document.getElementById('picture').focus({ preventScroll: true })")
+    for key in ("2", "0"):
+        browser.press(key)
+        same(browser, f"whether the button after key {key} is in sight at {what}", True, browser.run(FOCUSED)[1])
+    before = browser.run(FOCUSED)[2]
+    for _ in range(30):
+        browser.press("Tab")
+        name, is_seen, place = browser.run(FOCUSED)
+        same(browser, f"how far the picture is scrolled at {what} while `{name}` has the focus", before, place)
+        same(browser, f"whether the button `{name}` is in sight at {what} while it has the focus", True, is_seen)
+
+
+def look_at_choices_below_a_message(browser, what):
+    """The buttons of the card that asks for a receiver are in front of a message."""
+    browser.open(URL)
+    browser.choose("#example", "wrong_suspicion_keeps_the_command")
+    act(browser, "before 4")
+    browser.run("document.querySelector('#dock [data-m=\"2\"] .message').focus()")
+    browser.press("e")
+    # In this way, the message covers some of the buttons, at any size of the window.
+    browser.run("""say('word '.repeat(60));
+      const message = document.getElementById('toast'), buttons = document.querySelector('#about .acts');
+      Object.assign(message.style, { top: `${buttons.getBoundingClientRect().top}px`, bottom: 'auto' })""")
+    hidden = browser.run("""const buttons = [...document.querySelectorAll('#about button')];
+      document.getElementById('toast').style.pointerEvents = 'auto';
+      const isSeen = part => { const { left, top, width, height } = part.getBoundingClientRect();
+        return part.contains(document.elementFromPoint(left + width / 2, top + height / 2)); };
+      return [buttons.length > 3, buttons.filter(part => !isSeen(part)).map(part => part.textContent)]""")
+    same(browser, f"whether there are choices at {what}, and those behind the message", [True, []], hidden)
 
 
 # The labels of the last event that are partly behind the list of the events, and those that are cut off at the right

@@ -163,6 +163,16 @@ function clickPicture(event) {
   if (found && event.pointerType === 'touch') openCard(found, event.clientX, event.clientY);
 }
 
+// Scrolls the stage so that the buttons of a server are next to the summary, not behind it, if a key gave one of them the
+// focus. A click moves nothing, because its end would miss the button.
+function showFocused(button) {
+  const card = button.matches(':focus-visible') && button.closest('.server');
+  if (!card) return;
+  const { left, right } = card.getBoundingClientRect(), from = $('rows').getBoundingClientRect().right;
+  const hidden = right - $('stage').getBoundingClientRect().left - $('stage').clientWidth;
+  $('stage').scrollLeft += Math.min(left - from, Math.max(0, hidden));
+}
+
 function wireCards() {
   $('picture').onclick = clickPicture;
   $('picture').onmouseover = pointed;
@@ -170,7 +180,10 @@ function wireCards() {
   $('dock').onmouseover = pointed;
   $('dock').onmouseleave = unpointed;
   // No browser has a property `onfocusin`.
-  $('dock').addEventListener('focusin', ({ target }) => light(pointedAt(target)?.message ?? null));
+  $('dock').addEventListener('focusin', ({ target }) => {
+    light(pointedAt(target)?.message ?? null);
+    showFocused(target);
+  });
   $('about').onclick = ({ target }) => {
     const button = target.closest('[data-do]');
     if (button) { closeCard(); press(button); focusPicture(); }
