@@ -163,8 +163,8 @@ function clickPicture(event) {
   if (found && event.pointerType === 'touch') openCard(found, event.clientX, event.clientY);
 }
 
-// Scrolls the stage so that the buttons of a server are next to the summary, not behind it, if a key gave one of them the
-// focus. A click moves nothing, because its end would miss the button.
+// Scrolls the stage so that the buttons of a server are next to the summary, not behind it, if a key gave one of them
+// the focus. A click moves nothing, because its end would miss the button.
 function showFocused(button) {
   const card = button.matches(':focus-visible') && button.closest('.server');
   if (!card) return;

@@ -27,11 +27,11 @@ function say(text, isUndoable = false) {
 
 // In a low window, the message would be in front of the row of the last event. Then it is at the top.
 function placeMessage() {
-  const toast = $('toast'), row = $('rows').querySelector('.here')?.getBoundingClientRect();
+  const toast = $('toast'), row = $('rows').querySelector('.here');
   toast.classList.remove('above');
   if (!row || !toast.classList.contains('seen')) return;
-  const { top, bottom } = toast.getBoundingClientRect();
-  toast.classList.toggle('above', top < row.bottom && row.top < bottom);
+  const message = toast.getBoundingClientRect(), { top, bottom } = row.getBoundingClientRect();
+  toast.classList.toggle('above', message.top < bottom && top < message.bottom);
 }
 
 function later(name, wait, action) {
@@ -159,8 +159,8 @@ function change(prefix, from, what) {
   const { gone, altered, refused } = made, some = gone.slice(0, 4).join(', ') + (gone.length > 4 ? ' ..' : '');
   const parts = [what];
   if (gone.length) parts.push(`Nobody sends the messages of these events now, so they are gone: ${some}.`);
-  if (altered) parts.push(`${count(altered, 'later event')} ${altered === 1 ? 'has' : 'have'} a message that says something`
-    + ' else now.');
+  const have = altered === 1 ? 'has' : 'have';
+  if (altered) parts.push(`${count(altered, 'later event')} ${have} a message that says something else now.`);
   if (refused) parts.push(`${count(refused, 'later event')} ${refused === 1 ? 'is' : 'are'} refused now.`);
   const isWhole = prefix.events.length === made.schedule.events.length;
   if (parts.length > 1) say(parts.join(' '), true);
