@@ -94,18 +94,24 @@ class Verdict(NamedTuple):
     words: str
     goals: list
 
+    @property
+    def calls_unproved(self):
+        return "it calls " in self.words
+
 
 def read_verdicts(crate, printed):
     """What the checker printed of each function, by its path in the crate.
 
     A line `fn CRATE::PATH: WORDS` ends what it says of a function. The goals are in notes above it that name a place of
-    src, and in errors that name the function's own proof, as in `./proofs/line/read/Answers.antt:3:1: error: ..`.
+    src, and in errors that name the function's own proof, as in `./proofs/line/read/Answers.antt:3:1: error: ..`. A loop
+    for which no measure is written, and which therefore need not end, is only in the words.
     """
     found, in_code, in_proofs = {}, [], {}
     for line in printed.splitlines():
         if told := re.match(rf"fn {crate.name}::(.+?): (.*)", line):
             path = told[1]
-            found[path] = Verdict(told[2], [*in_proofs.get(path.replace("::", "/"), []), *in_code])
+            endless = ["that its loop ends"] if told[2].startswith("no proof: expected a measure ") else []
+            found[path] = Verdict(told[2], [*in_proofs.get(path.replace("::", "/"), []), *in_code, *endless])
             in_code = []
         elif told := re.match(r"(?:note: )?src/\S+:\d+:\d+: .*\(`(\S+)`\)", line):
             in_code.append(told[1])
