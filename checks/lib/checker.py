@@ -55,6 +55,10 @@ def find_kit():
     return os.path.dirname(page)
 
 
+def kit_version():
+    return subprocess.run(["rt", "version"], check=True, capture_output=True, text=True).stdout.strip()
+
+
 def is_built(crate):
     """Whether the library of a crate is newer than the crate's sources. Its files may be older, if rt ci has taken over
     the results of an earlier run, so this goes by the folder."""
