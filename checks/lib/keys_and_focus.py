@@ -9,6 +9,7 @@ def look(browser):
     browser.open(URL)
     choose_an_example(browser)
     scroll_a_text(browser)
+    see_the_focus(browser)
 
 
 def choose_an_example(browser):
@@ -28,6 +29,18 @@ def choose_an_example(browser):
     browser.press("3")
     same(browser, "the number of servers after the key 3", "5", browser.run("return document.getElementById('servers').value"))
     browser.press("Control", "z")
+
+
+def see_the_focus(browser):
+    """The box of a field cuts off what is outside of it. So the outline of a field with the focus is inside."""
+    for tab, field in (("#tab-editor", "source"), ("#tab-judge", "log")):
+        browser.click(tab)
+        found = browser.run(f"""
+          const field = document.getElementById('{field}');
+          field.focus();
+          const {{ outlineStyle, outlineWidth, outlineOffset }} = getComputedStyle(field);
+          return outlineStyle !== 'none' && parseFloat(outlineOffset) <= -parseFloat(outlineWidth)""")
+        same(browser, f"an outline inside the field {field} with the focus", True, found)
 
 
 def scroll_a_text(browser):
