@@ -99,4 +99,7 @@ def take_out_the_sender(browser):
     same(browser, "whether the page says that an event is refused", True,
          "1 later event is refused now" in browser.text("#toast"))
     browser.click("#toast [data-undo]")
+    same(browser, "what is left of the message after its undo", [0, False], browser.run("""
+      const toast = document.getElementById('toast');
+      return [toast.querySelectorAll('button').length, toast.classList.contains('seen')]"""))
     same(browser, "the events after the undo of the message", 6, len(read(browser)["events"]))

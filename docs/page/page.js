@@ -22,7 +22,15 @@ function say(text, isUndoable = false) {
   $('toast').classList.add('seen');
   placeMessage();
   clearTimeout(say.timer);
-  say.timer = setTimeout(() => $('toast').classList.remove('seen'), 5000);
+  say.timer = setTimeout(hideMessage, 5000);
+}
+
+// Hides the message. Its button is removed, because a key must not reach a button that nobody sees.
+function hideMessage() {
+  const button = $('toast').querySelector('button');
+  $('toast').classList.remove('seen');
+  if (document.activeElement === button) focusPicture();
+  if (button) button.remove();
 }
 
 // In a low window, the message would be in front of the row of the last event. Then it is at the top.

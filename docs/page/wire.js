@@ -117,7 +117,11 @@ function wireBar() {
   for (const [id, action] of Object.entries(actions)) $(id).onclick = action;
   $('slider').oninput = () => go(+$('slider').value);
   $('hint').querySelector('button').onclick = hideHint;
-  $('toast').onclick = ({ target }) => { if (target.closest('[data-undo]')) undo(page.past, page.future); };
+  $('toast').onclick = ({ target }) => {
+    if (!target.closest('[data-undo]')) return;
+    hideMessage();
+    undo(page.past, page.future);
+  };
 }
 
 function wireStage() {
