@@ -5,7 +5,7 @@
 // suspicion is accepted.
 
 // In percent of the events or messages, except `burst`, which is a number of commands.
-const RATES = { submissions: 15, burst: 2, suspicion: 4, retry: 10, loss: 3, repeats: 3, delay: 6, cuts: 1 };
+const RATES = { submissions: 30, burst: 2, suspicion: 2, retry: 10, loss: 3, repeats: 3, delay: 6, cuts: 1 };
 // A late message is on its way for fewer events than this.
 const LATE = 30;
 // With more useful messages on their way to a server than this, on average, no command is submitted.

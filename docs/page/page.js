@@ -13,7 +13,7 @@ const UNDONE = 500;
 let core;
 const page = {
   schedule: emptyOf({ servers: 3 }), cursor: 0, tab: 'lesson', past: [], future: [],
-  now: null, whole: null, edited: null, dice: diceOf(1),
+  now: null, whole: null, edited: null, dice: diceOf(7),
 };
 
 // Says something for a while, with a button to undo the last change if `isUndoable`.
