@@ -40,7 +40,8 @@ it took place. With the kit, `./check` repeats it ([how](CHANGING.md#builds-and-
 CRATES = """
 ## The crates
 
-`rt ci` proves the crates and their tests. `checks/edits` tries the edits of the crates. Their last lines were:
+`rt ci` proves the crates and their tests, and tries the edits in `must-fail`. `checks/edits` tries the others. Their last
+lines were:
 
 ```text
 {end}
@@ -104,6 +105,9 @@ def crates_of(said):
             waits = re.search(r"\bmay-wait=(\d+)", found[2])
             if waits and not of_tests:
                 crate["waits"] = int(waits[1])
+        elif found := re.match(r"rt: must-fail (\w+)/\S+: refused, as it must be", line):
+            of = crates.setdefault(found[1], {})
+            of["edits"] = of.get("edits", 0) + 1
         elif found := re.match(r"test result: ok\D+(\d+) passed", line):
             tests = int(found[1])
         elif (found := re.match(r"rt: (\w+): its tests passed", line)) and tests is not None:
@@ -114,10 +118,14 @@ def crates_of(said):
 
 def checked(said, tried, names):
     """The crates in the output of `rt ci`, in the order of these names, with the edits in the output of `checks/edits`.
-    Fails if one of them is of other crates, or if the second counts other edits in its last line."""
+    Fails if one of them is of other crates, or counts other edits in its last lines."""
     crates = crates_of(said)
     if set(crates) != set(names):
         sys.exit(f"check: the output of rt ci is not of these crates: {', '.join(sorted(set(crates) ^ set(names)))}")
+    of_kit = sum(numbers.get("edits", 0) for numbers in crates.values())
+    counted = re.search(r"; must-fail edits: (\d+) refused", said)
+    if of_kit != (int(counted[1]) if counted else 0):
+        sys.exit(f"check: the output of rt ci has {of_kit} edits that were refused, but it counts others")
     edits = re.findall(r"^checks/edits: (\w+)/\w+: refused, ", tried, re.M)
     if f"checks/edits: {len(edits)} edits of {len(set(edits))} crates refused" not in tried.splitlines():
         sys.exit(f"check: the output of checks/edits has {len(edits)} edits that were refused, but it counts others")
