@@ -11,7 +11,7 @@ use Rattle.mencius_log.specs.declared.observation.Observation.TheVariants.{Reply
 use Rattle.mencius_judge.specs.Log.{Log}
 use Rattle.mencius_clients.specs.declared.key_lines.KeyLines.{KeyLines}
 use Rattle.mencius_clients.specs.Explained.{IsLinearizable}
-use Rattle.mencius_clients.specs.Fitting.{AllFit, Fits, HasAbout, about_key}
+use Rattle.mencius_clients.specs.FittingAnswers.{AllFit, Fits, HasAbout, about_key}
 use Rattle.mencius_clients.specs.KeyLines.{Tracks, is_about}
 
 -- ---- observations about a key

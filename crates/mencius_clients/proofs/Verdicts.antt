@@ -21,7 +21,7 @@ use Rattle.mencius_clients.specs.ClientCounts.{AreClientCounts}
 use Rattle.mencius_clients.specs.ClientVerdicts.{HasCommandAt, IsBrokenAt, IsFirstWithout, IsGivenUp, IsKeyAt, IsLinearizedBy, IsOfKey, IsUndecidedAt, IsUnjudged}
 use Rattle.mencius_clients.specs.Explained.{AreManyWaiting, IsBroken, IsLinearizable, IsManyAt, IsReplyAt, heard, most_waiting}
 use Rattle.mencius_clients.specs.FirstLines.{IsFirstLine}
-use Rattle.mencius_clients.specs.Fitting.{Fits, about_key}
+use Rattle.mencius_clients.specs.FittingAnswers.{Fits, about_key}
 use Rattle.mencius_clients.specs.KeyLines.{lines_about}
 use Rattle.mencius_clients.specs.ReadLogs.{IsLogOf, IsNumbered, numbers_of}
 use Rattle.mencius_clients.proofs.Explaining.{part_more}

@@ -23,7 +23,7 @@ use Rattle.mencius_clients.specs.declared.client_verdict.GiveUp.{GiveUp}
 use Rattle.mencius_clients.specs.declared.client_verdict.GiveUp.TheVariants.{Waiting, Configurations}
 use Rattle.mencius_clients.specs.ClientCounts.{AreClientCounts}
 use Rattle.mencius_clients.specs.Explained.{AreManyWaiting, IsLinearizable, heard, most_waiting}
-use Rattle.mencius_clients.specs.Fitting.{Fits, about_key}
+use Rattle.mencius_clients.specs.FittingAnswers.{Fits, about_key}
 use Rattle.mencius_clients.specs.KeyLines.{lines_about}
 use Rattle.mencius_clients.specs.ReadLogs.{IsLogOf}
 

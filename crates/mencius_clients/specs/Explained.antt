@@ -16,8 +16,8 @@ use Rattle.mencius_clients.specs.declared.explanation.Cause.{Cause}
 use Rattle.mencius_clients.specs.declared.explanation.Cause.TheVariants.{Waiting, Configurations, Unconfirmed}
 use Rattle.mencius_clients.specs.declared.explanation.Explanation.{Explanation}
 use Rattle.mencius_clients.specs.declared.explanation.Explanation.TheVariants.{Explained, Unexplained, Broken, Undecided}
-use Rattle.mencius_clients.specs.declared.checking.Heard.{Heard}
-use Rattle.mencius_clients.specs.declared.checking.Heard.TheVariants as hearing
+use Rattle.mencius_clients.specs.declared.second_judge.Heard.{Heard}
+use Rattle.mencius_clients.specs.declared.second_judge.Heard.TheVariants as hearing
 use Rattle.mencius_clients.specs.declared.outcome.Outcome.{Outcome}
 use Rattle.mencius_clients.specs.declared.outcome.Outcome.TheVariants.{Goes}
 use Rattle.mencius_clients.specs.declared.outcome.Outcome.TheVariants as outcome

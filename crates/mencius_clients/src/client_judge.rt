@@ -10,15 +10,15 @@ ghost use Rattle.mencius_clients.specs.ClientVerdicts.{HasCommandAt, IsClientJud
 ghost use Rattle.mencius_clients.specs.Explained.{HasHeard, IsBroken, IsCause, IsLinearizable, heard};
 ghost use Rattle.mencius_clients.specs.ReadLogs.{IsLogOf, IsNumbered, IsReadFailure};
 
-use crate::checking::{Heard, hear};
 use crate::client_counts::counts_of;
 use crate::client_log::{ClientLog, number_at, read_log};
 use crate::client_verdict::{ClientJudgement, ClientVerdict, GiveUp};
 use crate::explanation::{Cause, Explanation, explain_heard};
 use crate::first_lines::{FirstLine, first_line};
-use crate::fitting::fitting_answers;
+use crate::fitting_answers::fitting_answers;
 use crate::key_lines::key_lines;
 use crate::line_keys::key_at;
+use crate::second_judge::{Heard, hear};
 use mencius_base::NoMemory;
 use mencius_io::{Failure, Source};
 use mencius_judge::{Judge, Violation};

@@ -6,10 +6,10 @@ ghost use Rattle.mencius_clients.specs.Explained.{HasHeard, IsEnd, IsExplanation
 ghost use Rattle.mencius_clients.specs.Searched.{HasSearched};
 
 use crate::answers::reply_lines;
-use crate::checking::{Heard, hear, is_confirmed};
 use crate::orders::merged_order;
 use crate::outcome::Outcome;
 use crate::search::Search;
+use crate::second_judge::{Heard, hear, is_confirmed};
 use mencius_base::{CommandId, NoMemory};
 use mencius_judge::{Judge, Violation};
 use mencius_log::Observation;

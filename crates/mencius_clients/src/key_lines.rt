@@ -7,7 +7,7 @@ ghost use Rattle.mencius_log.specs.declared.observation.Answer.{Answer};
 ghost use Rattle.mencius_log.specs.declared.observation.Observation.TheVariants.{Reply, Submit};
 ghost use Rattle.mencius_judge.specs.Log.{Log};
 ghost use Rattle.mencius_judge.specs.Quotes.{NumberedLog, log_of};
-ghost use Rattle.mencius_clients.specs.Fitting.{HasAbout, about_key};
+ghost use Rattle.mencius_clients.specs.FittingAnswers.{HasAbout, about_key};
 ghost use Rattle.mencius_clients.specs.KeyLines.{HasLines, Tracks, is_about, lines_about, waits};
 ghost use Rattle.mencius_clients.specs.ReadLogs.{IsNumbered, numbers_of};
 

@@ -2,7 +2,6 @@
 #![tactic(auto)]
 
 mod answers;
-mod checking;
 mod client_counts;
 mod client_json;
 mod client_judge;
@@ -12,7 +11,7 @@ mod client_verdict;
 mod configuration;
 mod explanation;
 mod first_lines;
-mod fitting;
+mod fitting_answers;
 mod identities;
 mod key_lines;
 mod key_search;
@@ -20,6 +19,7 @@ mod line_keys;
 mod orders;
 mod outcome;
 mod search;
+mod second_judge;
 mod slot_set;
 mod slots;
 mod steps;

@@ -12,16 +12,16 @@ use Rattle.mencius_app.specs.Ending.{ending_of, lines_of_ending, status_of_endin
 use Rattle.mencius_exports.specs.LiveJudges.{EndsFrom, HasReadUpTo, IsCalled, IsJudged, IsJudgement, Reports, ReportsEnd, TakesFrom, TakesPiece}
 use Rattle.mencius_exports.specs.declared.answer.Answer.{Answer}
 use Rattle.mencius_exports.specs.declared.call.Called.{Called}
-use Rattle.mencius_exports.specs.declared.judging.Judging.{Judging}
+use Rattle.mencius_exports.specs.declared.log_judge.LogJudge.{LogJudge}
 
 -- a judge without a verdict has processed the bytes
-pub taken_without : (judging : Judging) (bytes : List ℕ) (verdict : Option Called) → false ≡ is_some verdict
+pub taken_without : (judging : LogJudge) (bytes : List ℕ) (verdict : Option Called) → false ≡ is_some verdict
     → HasReadUpTo judging bytes verdict → HasTaken judging.reader bytes
 taken_without judging bytes None none read = read
 taken_without judging bytes (Some called) none read = absurd (cc)
 
 -- after a verdict, the judge has also taken any bytes that follow
-pub taken_with : (judging : Judging) (bytes piece : List ℕ) (verdict : Option Called) → true ≡ is_some verdict
+pub taken_with : (judging : LogJudge) (bytes piece : List ℕ) (verdict : Option Called) → true ≡ is_some verdict
     → HasReadUpTo judging bytes verdict → HasReadUpTo judging (bytes ++ piece) verdict
 taken_with judging bytes piece None some read = absurd (cc)
 taken_with judging bytes piece (Some called) some read =
@@ -29,7 +29,7 @@ taken_with judging bytes piece (Some called) some read =
     (sym (append_assoc bytes piece rest)) (read (piece ++ rest))
 
 -- a verdict that is right no matter what follows is right at the end of the log
-pub right_with : (judging : Judging) (bytes : List ℕ) (verdict : Option Called) (called : Called)
+pub right_with : (judging : LogJudge) (bytes : List ℕ) (verdict : Option Called) (called : Called)
     → verdict ≡ Some called → HasReadUpTo judging bytes verdict
     → IsCalled judging.is_brief judging.is_json bytes called
 right_with judging bytes verdict called is read =
@@ -37,7 +37,7 @@ right_with judging bytes verdict called is read =
     (subst (HasReadUpTo judging bytes) is read [])
 
 -- a judge that was found and put back took its piece
-pub took : (piece : List ℕ) (before after : Option Judging) (judging next shown : Judging)
+pub took : (piece : List ℕ) (before after : Option LogJudge) (judging next shown : LogJudge)
     (answer : Answer) (out then_out err then_err : List ℕ) → before ≡ Some judging → after ≡ Some next
     → TakesPiece piece judging next → shown ≡ next → Reports shown.verdict answer out then_out err then_err
     → TakesFrom piece before after answer out then_out err then_err
@@ -50,7 +50,7 @@ took piece before after judging next shown answer out then_out err then_err foun
     )
 
 -- a judge that was found gave its verdict on the bytes that it had taken
-pub ended : (before : Option Judging) (judging shown : Judging)
+pub ended : (before : Option LogJudge) (judging shown : LogJudge)
     (answer : Answer) (out then_out err then_err : List ℕ) → before ≡ Some judging → shown ≡ judging
     → ReportsEnd shown answer out then_out err then_err → EndsFrom before answer out then_out err then_err
 ended before judging shown answer out then_out err then_err found same told =

@@ -26,8 +26,8 @@ use Rattle.std_alloc.proofs.ResultValues.{and_tt}
 use Rattle.mencius_exports.specs.contracts.loose.Loose as loose
 use Rattle.std.specs.Prelude.{◌≢◌, Option, Some, None}
 use Rattle.mencius_exports.specs.Holdings.{held_owns}
-use Rattle.mencius_exports.specs.declared.judging.Judging.{Judging}
-use Rattle.mencius_exports.specs.contracts.judging.Judging.{the_row as judging_row}
+use Rattle.mencius_exports.specs.declared.log_judge.LogJudge.{LogJudge}
+use Rattle.mencius_exports.specs.contracts.log_judge.LogJudge.{the_row as judging_row}
 use Rattle.mencius_exports.specs.contracts.held.Held as held
 
 abbrev pub both : Val → Val → Val
@@ -69,7 +69,7 @@ abbrev pub one_ptr : Ptr → Val
 one_ptr p = vstruct (vcons (ptr_val p) vnil)
 
 module _ {M : Type 1} {𝓤 : Ura M} {𝓛 : Logic 𝓤} {K : Type 0} {Γ : List (Item 𝓤)} {G : Goal 𝓤 𝓛.H} where
-  pub held_in : K → (p : Ptr) (x : Option Judging)
+  pub held_in : K → (p : Ptr) (x : Option LogJudge)
       → Step K 𝓛 (‵ (held.the_row.own_val (record { at = p; value = x }) (one_ptr p ∷ [])) ∷ Γ) G (‵ (held_owns judging_row p x) ∷ Γ) G
   held_in t p x = step (λ s. let v : Val = one_ptr p in
       nothing t $ feq_i t (List Val) (ptr_val p ∷ []) (ptr_val p ∷ []) refl $ fjoin t $ feq_i t (List Val) (v ∷ []) (v ∷ []) refl $ fjoin t $
@@ -82,6 +82,6 @@ module _ {M : Type 1} {𝓤 : Ura M} {𝓛 : Logic 𝓤} {K : Type 0} {Γ : List
       fsplit t $ fpick t (λ vss. fsplit t $ feq_l t (λ ev. fsplit t $ feq_l t (λ ep. drop t $
       k (subst (λ (ps : List Val). vs ≡ vstruct (of_list (ps ++ [])) ∷ []) ep ev))))
 
-pub value_of : (o : Option Judging) → o ≢ None → (x : Judging) × (o ≡ Some x)
+pub value_of : (o : Option LogJudge) → o ≢ None → (x : LogJudge) × (o ≡ Some x)
 value_of None some = absurd (some refl)
 value_of (Some x) some = (x, refl)

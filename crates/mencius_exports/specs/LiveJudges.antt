@@ -9,7 +9,7 @@ use Rattle.mencius_app.specs.Judgements.{IsJudgementOf}
 use Rattle.mencius_exports.specs.Calls.{Tells, memory_status}
 use Rattle.mencius_exports.specs.declared.answer.Answer.{Answer}
 use Rattle.mencius_exports.specs.declared.call.Called.{Called}
-use Rattle.mencius_exports.specs.declared.judging.Judging.{Judging}
+use Rattle.mencius_exports.specs.declared.log_judge.LogJudge.{LogJudge}
 use Rattle.mencius_exports.specs.declared.live_judge.LiveJudge.{LiveJudge}
 
 -- ---- verdicts
@@ -42,29 +42,29 @@ IsCalled is_brief is_json bytes called =
 
 -- without a verdict, the judge has judged each line of these bytes that has ended, and they keep all promises. A
 -- verdict is right no matter what follows the bytes
-abbrev pub HasReadUpTo : Judging → List ℕ → Option Called → Type 0
+abbrev pub HasReadUpTo : LogJudge → List ℕ → Option Called → Type 0
 HasReadUpTo judging bytes None = HasTaken judging.reader bytes
 HasReadUpTo judging bytes (Some called) = (rest : List ℕ) → IsCalled judging.is_brief judging.is_json (bytes ++ rest) called
 
 -- the judge has taken these bytes
-abbrev pub HasRead : Judging → List ℕ → Type 0
+abbrev pub HasRead : LogJudge → List ℕ → Type 0
 HasRead judging bytes = HasReadUpTo judging bytes judging.verdict
 
 -- the judge still has its options, and its verdict if it had one
-pub record Keeps (old new : Judging) : Type 0 where
+pub record Keeps (old new : LogJudge) : Type 0 where
   pub brief : new.is_brief ≡ old.is_brief
   pub json : new.is_json ≡ old.is_json
   pub verdict : (called : Called) → old.verdict ≡ Some called → new ≡ old
 
 -- the judge took a piece of the log
-pub record TakesPiece (piece : List ℕ) (old new : Judging) : Type 0 where
+pub record TakesPiece (piece : List ℕ) (old new : LogJudge) : Type 0 where
   pub keeps : Keeps old new
   pub taken : (before : List ℕ) → HasRead old before → HasRead new (before ++ piece)
 
 -- ---- reports
 
 -- with the flag there is a judge, and without it there is none
-abbrev pub HoldsIf : Bool → Option Judging → Type 0
+abbrev pub HoldsIf : Bool → Option LogJudge → Type 0
 HoldsIf true held = held ≢ None
 HoldsIf false held = held ≡ None
 
@@ -79,23 +79,23 @@ Reports (Some called) answer out then_out err then_err =
     Tells answer called.status called.printed.items called.said.items called.is_asked out then_out err then_err
 
 -- the `Answer` reports a call that judges these bytes
-abbrev pub ReportsOn : Judging → List ℕ → Answer → List ℕ → List ℕ → List ℕ → List ℕ → Type 0
+abbrev pub ReportsOn : LogJudge → List ℕ → Answer → List ℕ → List ℕ → List ℕ → List ℕ → Type 0
 ReportsOn judging bytes answer out then_out err then_err =
     (called : Called) × IsCalled judging.is_brief judging.is_json bytes called
     × Tells answer called.status called.printed.items called.said.items called.is_asked out then_out err then_err
 
 -- the `Answer` reports the verdict on the bytes that the judge has taken, as if the log ended there
-abbrev pub ReportsEnd : Judging → Answer → List ℕ → List ℕ → List ℕ → List ℕ → Type 0
+abbrev pub ReportsEnd : LogJudge → Answer → List ℕ → List ℕ → List ℕ → List ℕ → Type 0
 ReportsEnd judging answer out then_out err then_err =
     (bytes : List ℕ) → HasRead judging bytes → ReportsOn judging bytes answer out then_out err then_err
 
 -- the judge took a piece, and its report was given. Without a judge, the report is that there is no memory
-abbrev pub TakesFrom : List ℕ → Option Judging → Option Judging → Answer
+abbrev pub TakesFrom : List ℕ → Option LogJudge → Option LogJudge → Answer
     → List ℕ → List ℕ → List ℕ → List ℕ → Type 0
 TakesFrom piece None after answer out then_out err then_err =
     (after ≡ None) × Tells answer memory_status [] [] false out then_out err then_err
 TakesFrom piece (Some judging) after answer out then_out err then_err =
-    (next : Judging) × (after ≡ Some next) × TakesPiece piece judging next
+    (next : LogJudge) × (after ≡ Some next) × TakesPiece piece judging next
     × Reports next.verdict answer out then_out err then_err
 
 -- the judge of a host took a piece, and its report was given
@@ -104,7 +104,7 @@ TakesBytes piece old new answer out then_out err then_err =
     IsWhole new × TakesFrom piece old.held.value new.held.value answer out then_out err then_err
 
 -- the verdict of the judge was given. Without a judge, the report is that there is no memory
-abbrev pub EndsFrom : Option Judging → Answer → List ℕ → List ℕ → List ℕ → List ℕ → Type 0
+abbrev pub EndsFrom : Option LogJudge → Answer → List ℕ → List ℕ → List ℕ → List ℕ → Type 0
 EndsFrom None answer out then_out err then_err = Tells answer memory_status [] [] false out then_out err then_err
 EndsFrom (Some judging) answer out then_out err then_err = ReportsEnd judging answer out then_out err then_err
 

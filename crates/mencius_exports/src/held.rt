@@ -3,10 +3,10 @@
 ghost use Rattle.std.specs.Prelude.{◌≡◌, ◌≢◌, Option, Some, None};
 ghost use Rattle.std.specs.Coded.{coded_option};
 ghost use Rattle.mencius_exports.specs.Holdings.{held_owns};
-ghost use Rattle.mencius_exports.specs.declared.judging.Judging.{Judging};
-ghost use Rattle.mencius_exports.specs.contracts.judging.Judging.{the_row};
+ghost use Rattle.mencius_exports.specs.declared.log_judge.LogJudge.{LogJudge};
+ghost use Rattle.mencius_exports.specs.contracts.log_judge.LogJudge.{the_row};
 
-use crate::judging::Judging;
+use crate::log_judge::LogJudge;
 use crate::loose::Loose;
 use std::alloc::Global;
 use std::marker::Model;
@@ -17,7 +17,7 @@ use std::ptr::null_mut;
 #[derive(Drop)]
 pub struct Held {
     at: *mut u8,
-    ghost value: { Option Judging } by { coded_option the_row.coded },
+    ghost value: { Option LogJudge } by { coded_option the_row.coded },
 }
 
 impl Model for Held {
@@ -33,7 +33,7 @@ impl Held {
     }
 
     /// Keeps the pointer of a box. The allocator takes no memory, so any other one can free the box.
-    pub(crate) fn of(loose: Loose<Judging, Global>) -> Held
+    pub(crate) fn of(loose: Loose<LogJudge, Global>) -> Held
         ensures { result.value ≡ Some loose.value }
     {
         let Loose { at, alloc: _ } = loose;
@@ -41,13 +41,13 @@ impl Held {
     }
 
     /// Makes the box again.
-    pub(crate) fn into_loose(self, alloc: Global) -> Loose<Judging, Global>
+    pub(crate) fn into_loose(self, alloc: Global) -> Loose<LogJudge, Global>
         requires { self.value ≢ None }
         ensures { self.value ≡ Some result.value }
     {
         let Held { at } = self;
         Loose {
-            at: at as *mut Judging,
+            at: at as *mut LogJudge,
             alloc,
         }
     }

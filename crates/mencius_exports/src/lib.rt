@@ -10,15 +10,15 @@ ghost use Rattle.mencius_exports.specs.LiveJudges.{Begins, Ends, IsWhole, TakesB
 mod answer;
 mod call;
 mod held;
-mod judging;
 mod live_judge;
+mod log_judge;
 mod loose;
 mod streams;
 
 use crate::answer::tell;
 use crate::call::{call, call_for_state};
-use crate::judging::Judging;
 use crate::live_judge::{put_back, take_out, tell_verdict};
+use crate::log_judge::LogJudge;
 pub use answer::Answer;
 pub use live_judge::LiveJudge;
 use mencius_base::NoMemory;
@@ -85,7 +85,7 @@ pub extern "C" fn mencius_judge_begin(
     ensures { Begins is_brief is_json judge.new }
 {
     let _before = take_out(judge, alloc);
-    let Ok(judging) = Judging::new(alloc, is_brief, is_json) else {
+    let Ok(judging) = LogJudge::new(alloc, is_brief, is_json) else {
         return;
     };
     if let Ok(boxed) = Box::new(alloc, judging) {

@@ -6,7 +6,7 @@ ghost use Rattle.mencius_exports.specs.LiveJudges.{IsWhole, Reports};
 use crate::answer::{Answer, tell_texts};
 use crate::call::Called;
 use crate::held::Held;
-use crate::judging::Judging;
+use crate::log_judge::LogJudge;
 use crate::loose::Loose;
 use std::alloc::Global;
 use std::mem::replace;
@@ -23,7 +23,7 @@ pub struct LiveJudge {
 }
 
 /// Takes the judge out, if there is one.
-pub(crate) fn take_out(judge: &mut LiveJudge, alloc: Global) -> Option<Box<Judging>>
+pub(crate) fn take_out(judge: &mut LiveJudge, alloc: Global) -> Option<Box<LogJudge>>
     requires { IsWhole judge.old }
     ensures whole { IsWhole judge.new }
     ensures none { judge.new.held.value ≡ None }
@@ -39,7 +39,7 @@ pub(crate) fn take_out(judge: &mut LiveJudge, alloc: Global) -> Option<Box<Judgi
 }
 
 /// Puts a judge into an empty place.
-pub(crate) fn put_back(judge: &mut LiveJudge, judging: Box<Judging>)
+pub(crate) fn put_back(judge: &mut LiveJudge, judging: Box<LogJudge>)
     requires { judge.old.held.value ≡ None }
     ensures whole { IsWhole judge.new }
     ensures put { judge.new.held.value ≡ Some judging.value }
@@ -52,7 +52,7 @@ pub(crate) fn put_back(judge: &mut LiveJudge, judging: Box<Judging>)
 /// fits.
 pub(crate) fn tell_verdict(
     alloc: Global,
-    judging: &Judging,
+    judging: &LogJudge,
     printed: &mut [u8],
     said: &mut [u8],
     answer: &mut Answer,

@@ -68,8 +68,8 @@ abbrev pub whole_in : Data → Option ℕ
 whole_in d = option_and_then as_u64 (as_number d)
 
 -- the whole number in a field, or the field's default if the field is missing
-unfoldable pub number_of : WholeField → Data → Option ℕ
-number_of field d = option_map_or whole_in (get field.name d) field.default
+unfoldable pub whole_number : WholeField → Data → Option ℕ
+whole_number field d = option_map_or whole_in (get field.name d) field.default
 
 -- whether a number is within the limits of a field
 unfoldable pub is_number_within : WholeField → ℕ → Bool

@@ -10,7 +10,7 @@ use Rattle.mencius_io.specs.declared.fault.IoFault.{IoFault}
 use Rattle.mencius_input.specs.declared.scenario.Scenario.{Scenario}
 use Rattle.mencius_format.specs.ValuesOrFaults.{value_or_fault}
 use Rattle.mencius_format.specs.Grammar.{command_of, is_command_within}
-use Rattle.mencius_input.specs.FieldsOf.{commands_name, is_number_within, loss_field, number_of, seed_field, turns_field, workers_field}
+use Rattle.mencius_input.specs.FieldsOf.{commands_name, is_number_within, loss_field, seed_field, turns_field, whole_number, workers_field}
 use Rattle.mencius_input.specs.Scenario.{◌>>=◌, all_in, all_of, said_by, scenario_in}
 
 -- ---- the shape
@@ -22,10 +22,10 @@ commands_read version d = all_in (said_by (command_of version)) d
 -- the plan, from the fields that only a run has
 unfoldable pub plan_read : ℕ → Data → Option PlanState
 plan_read version d = do
-  workers ← number_of workers_field d
-  seed ← number_of seed_field d
-  turns ← number_of turns_field d
-  loss ← number_of loss_field d
+  workers ← whole_number workers_field d
+  seed ← whole_number seed_field d
+  turns ← whole_number turns_field d
+  loss ← whole_number loss_field d
   lists ← option_and_then as_array (get commands_name d)
   commands ← all_of (commands_read version) lists
   Some (record { workers = workers; seed = seed; turns = turns; loss = loss; commands = commands })

@@ -14,9 +14,10 @@ use Rattle.mencius_input.specs.declared.scenario.Scenario.{Scenario}
 use Rattle.mencius_format.specs.ValuesOrFaults.{value_or_fault}
 use Rattle.mencius_format.specs.Words.{words}
 use Rattle.mencius_format.specs.Grammar.{event_of, is_event_within}
-use Rattle.mencius_input.specs.FieldsOf.{beta_field, events_name, is_number_within, number_of, servers_field, version_field}
+use Rattle.mencius_input.specs.FieldsOf.{beta_field, events_name, is_number_within, servers_field, version_field, whole_number}
 
 infixl 10 ◌>>=◌
+-- what `do` stands for. It is f x if o is Some x, and otherwise None
 abbrev pub ◌>>=◌ : {X Y : Type 0} → Option X → (X → Option Y) → Option Y
 o >>= f = option_and_then f o
 
@@ -44,13 +45,14 @@ has_only names no_members = true
 has_only names (member name d ms) = list_any (bytes_eq name) names && has_only names ms
 
 -- the scenario in an object. The object has only the fields for the version, the servers and beta, and fields with the
--- names `others`. The course, such as the events, is read from these by the rules of the scenario's version
+-- names `others`. These hold the course of the scenario, which is what happens in it. For `replay`, it is the list of
+-- events. `course_of` reads the course by the rules of the scenario's version
 unfoldable pub scenario_of : {X : Type 0} → List (List ℕ) → (ℕ → Data → Option X) → Data → Option (Scenario X)
 scenario_of others course_of d = do
   fields ← as_object d
-  version ← number_of version_field d
-  servers ← number_of servers_field d
-  beta ← number_of beta_field d
+  version ← whole_number version_field d
+  servers ← whole_number servers_field d
+  beta ← whole_number beta_field d
   course ← course_of version d
   if has_only (version_field.name ∷ servers_field.name ∷ beta_field.name ∷ others) fields
       then Some (record { version = version; members = record { count = servers; beta = beta }; course = course }) else None

@@ -102,8 +102,8 @@ is_open_from m q i learned = owner m i == q && is_none learned
 
 -- The last place that a suspicion may cover, or `None` if it covers nothing. The last argument is the lowest open
 -- instance of the suspected server. If it is below front + beta, the result is front + 2 * beta. Otherwise, and if no
--- instance is open, it is `None`. It is twice beta so that the next suspicion covers nothing until the front has moved by
--- more than beta.
+-- instance is open, it is `None`. It is twice beta so that, once the covered instances are learned, the next suspicion
+-- covers nothing until the front has moved by more than beta.
 abbrev pub reach_from : Membership → Inst → Option Inst → Option Inst
 reach_from m front None = None
 reach_from m front (Some i) = if nat_lt i (front + m.beta) then Some (front + 2 * m.beta) else None

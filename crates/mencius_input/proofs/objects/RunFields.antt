@@ -16,7 +16,7 @@ use Rattle.mencius_input.specs.declared.fields.FieldValues as code
 use Rattle.mencius_input.specs.declared.kind.Kind.TheVariants.{Run}
 use Rattle.mencius_input.specs.declared.scenario.Shared.{Shared}
 use Rattle.mencius_input.specs.FieldValues.{AreFieldValues, list_kept, list_said, are_lists_within, is_plan_for, plan_or_fault, plan_said, said_of, scenario_or_fault, shared_in, is_shared_within}
-use Rattle.mencius_input.specs.FieldsOf.{field_number, is_field_within, names, number_of}
+use Rattle.mencius_input.specs.FieldsOf.{field_number, is_field_within, names, whole_number}
 use Rattle.mencius_input.specs.Plan.{commands_read, are_numbers_within, plan_read, is_plan_within, run_names}
 use Rattle.mencius_input.specs.Scenario.{all_in, all_of, has_only, scenario_of, is_scenario_within}
 use Rattle.mencius_input.proofs.lists.VersionItems.{lists_said_in}
@@ -33,7 +33,7 @@ plan_by_fields version ow os ot ol value =
 pub plan_bound : (version : ℕ) (ms : Members) → plan_read version (object ms)
     ≡ plan_by_fields version (field_number Workers (object ms)) (field_number Seed (object ms)) (field_number Turns (object ms))
     (field_number Loss (object ms)) (get_member (codes "commands") ms)
-unfolding plan_read number_of field_number
+unfolding plan_read whole_number field_number
 plan_bound version ms = refl
 
 -- ---- the limits

@@ -16,7 +16,7 @@ use Rattle.mencius_input.specs.declared.kind.Kind.TheVariants.{Replay, Run}
 use Rattle.mencius_input.specs.declared.scenario.Scenario.{Scenario}
 use Rattle.mencius_input.specs.declared.scenario.Shared.{Shared}
 use Rattle.mencius_input.specs.FieldValues.{IsForeign, IsUnread, own_names, said_of, scenario_or_fault, shared_in, is_shared_within, with_course}
-use Rattle.mencius_input.specs.FieldsOf.{beta_field, default_of, field_number, is_field_within, is_number_within, names, number_of, servers_field, version_field}
+use Rattle.mencius_input.specs.FieldsOf.{beta_field, default_of, field_number, is_field_within, is_number_within, names, servers_field, version_field, whole_number}
 use Rattle.mencius_input.specs.Scenario.{has_only, scenario_of, is_scenario_within}
 
 -- ---- the limits
@@ -69,7 +69,7 @@ pub scenario_bound : {X : Type 0} (kind : Kind) (course_of : ℕ → Data → Op
     → scenario_of (own_names kind) course_of (object ms)
     ≡ scenario_by_fields (has_only (names kind) ms) (field_number Version (object ms)) (field_number Servers (object ms))
     (field_number Beta (object ms)) (λ version. course_of version (object ms))
-unfolding scenario_of number_of field_number
+unfolding scenario_of whole_number field_number
 scenario_bound Replay course_of ms = refl
 scenario_bound Run course_of ms = refl
 
@@ -122,8 +122,8 @@ pub no_course : {X : Type 0} (kind : Kind) (course_of : ℕ → Data → Option 
     → ((version : ℕ) → course_of version d ≡ None) → scenario_of (own_names kind) course_of d ≡ None
 unfolding scenario_of
 no_course kind course_of d h =
-    none_behind (as_object d) _ (λ fields _. none_behind (number_of version_field d) _ (λ version _.
-    none_behind (number_of servers_field d) _ (λ servers _. none_behind (number_of beta_field d) _ (λ beta _.
+    none_behind (as_object d) _ (λ fields _. none_behind (whole_number version_field d) _ (λ version _.
+    none_behind (whole_number servers_field d) _ (λ servers _. none_behind (whole_number beta_field d) _ (λ beta _.
     rw (h version) refl))))
 
 all_names : (kind : Kind) (ms : Members)
@@ -136,8 +136,8 @@ foreign_said : {X : Type 0} (kind : Kind) (course_of : ℕ → Data → Option X
     → scenario_of (own_names kind) course_of d ≡ None
 unfolding scenario_of
 foreign_said kind course_of d foreign =
-    none_behind (as_object d) _ (λ fields is. none_behind (number_of version_field d) _ (λ version _.
-    none_behind (number_of servers_field d) _ (λ servers _. none_behind (number_of beta_field d) _ (λ beta _.
+    none_behind (as_object d) _ (λ fields is. none_behind (whole_number version_field d) _ (λ version _.
+    none_behind (whole_number servers_field d) _ (λ servers _. none_behind (whole_number beta_field d) _ (λ beta _.
     none_behind (course_of version d) _ (λ course _. rw (all_names kind fields, foreign fields is) refl)))))
 
 -- a fault that prevents reading the fields is the fault of the scenario

@@ -2,7 +2,7 @@ use Rattle.std.proofs.Common.{◌≡◌, ℕ, Some, reverse, take, slice_get, ar
 use Rattle.std.proofs.lemmas.List.{take_all}
 use Rattle.mencius_log.specs.declared.observation.Observation.{Observation}
 use Rattle.mencius_judge.specs.Log.{Log}
-use Rattle.mencius_clients.specs.Fitting.{HasAbout, about_key}
+use Rattle.mencius_clients.specs.FittingAnswers.{HasAbout, about_key}
 use Rattle.mencius_clients.proofs.Explaining.{get_at, part_more}
 use Rattle.mencius_clients.proofs.key_lines.lines_of_key.Goals as goal
 

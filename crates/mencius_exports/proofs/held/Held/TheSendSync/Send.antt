@@ -11,9 +11,9 @@ use Rattle.std.proofs.option.Option.TheSendSync as option
 use Rattle.std_alloc.proofs.SendSync.{lies}
 use Rattle.mencius_judge.proofs.log_reader.LogReader.TheSendSync as reader
 use Rattle.mencius_exports.specs.Holdings.{heap, held_owns}
-use Rattle.mencius_exports.specs.declared.judging.Judging.{Judging}
+use Rattle.mencius_exports.specs.declared.log_judge.LogJudge.{LogJudge}
 use Rattle.mencius_exports.specs.contracts.call.Called as called
-use Rattle.mencius_exports.specs.contracts.judging.Judging as judging
+use Rattle.mencius_exports.specs.contracts.log_judge.LogJudge as judging
 use Rattle.mencius_exports.specs.contracts.held.Held.{the_row}
 
 called_send : IsSend called.the_row
@@ -25,7 +25,7 @@ judging_send = declared_send judging.the_type (
   (search sendable, (reader.the_send, (option.the_send called.the_row called_send, tt))),
 )
 
-held_keyless : (p : Ptr) (x : Option Judging) → Keyless (held_owns judging.the_row p x)
+held_keyless : (p : Ptr) (x : Option LogJudge) → Keyless (held_owns judging.the_row p x)
 held_keyless p None = tt
 held_keyless p (Some x) = (lies judging.the_row judging_send p x, frees.frees heap (raw (lone judging.the_row.mir)) p)
 

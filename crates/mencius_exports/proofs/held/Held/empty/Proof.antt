@@ -20,7 +20,7 @@ use mathlib.Core.Path.{◌≡◌}
 use Rattle.std.specs.Prelude.{Option, None}
 use Rattle.std.proofs.raw_atomic.Walks.{proved_at, leaves}
 use Rattle.mencius_exports.proofs.LoosePointers.{one_ptr, held_in}
-use Rattle.mencius_exports.specs.declared.judging.Judging.{Judging}
+use Rattle.mencius_exports.specs.declared.log_judge.LogJudge.{LogJudge}
 use Rattle.mencius_exports.specs.contracts.held.Held.empty.{ended, clauses}
 use Rattle.mencius_exports.specs.contracts.held.Held.empty.Key.{name as #self}
 use Rattle.mencius_exports.proofs.held.Held.empty.Statement.{statement}
@@ -31,7 +31,7 @@ empty_spec 𝓤 𝓛 𝓜 𝓡 wired =
     let H = 𝓛.H in let 𝓣 = tables 𝓤 H 𝓜 𝓡 𝓡.env in let c = clauses 𝓛 𝓜.mem 𝓡.returns in
     let hs : Stays ended.signature.params ended.kept = tt in
     proved_at 𝓛 ended hs c 𝓜 𝓡 tt #self code.function (code.unfolded 𝓤 H 𝓜 𝓡 wired) (λ z are.
-    let Post : Val → SProp 𝓤 = (walk_of 𝓛 ended hs c).post z in let none : Option Judging = None in
+    let Post : Val → SProp 𝓤 = (walk_of 𝓛 ended hs c).post z in let none : Option LogJudge = None in
     qed 𝓛 ((raw (alive 𝓛 ended.signature z.0.0 z.0.1) ⊛ ‵ (owns (types_at ended.signature.params z.0.0) z.0.3 z.0.4)) ∷ raw ((c z.0.0 z.0.3).requires z.1) ∷ []) ∵
     split ! $ keep ! (0 ∷ []) $
     enter ! 𝓣.C 𝓣.Λ code.function [] Post $ alloc_all ! (λ l. pass_all ! refl tt $

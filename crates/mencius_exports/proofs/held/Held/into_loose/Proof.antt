@@ -26,8 +26,8 @@ use Rattle.std.proofs.alloc.Global.TheLaws as heap_laws
 use Rattle.std.specs.contracts.impls.GlobalAllocator.TheImpl.{ghosts}
 use Rattle.std.proofs.raw_atomic.Walks.{proved_at, leaves}
 use Rattle.mencius_exports.specs.Holdings.{held_owns, may_free}
-use Rattle.mencius_exports.specs.declared.judging.Judging.{Judging}
-use Rattle.mencius_exports.specs.contracts.judging.Judging.{the_row as judging_row}
+use Rattle.mencius_exports.specs.declared.log_judge.LogJudge.{LogJudge}
+use Rattle.mencius_exports.specs.contracts.log_judge.LogJudge.{the_row as judging_row}
 use Rattle.mencius_exports.specs.contracts.held.Held as held
 use Rattle.mencius_exports.proofs.LoosePointers.{both, al, Loose, loose_good, loose_in, one_ptr, held_out, value_of}
 use Rattle.std_alloc.specs.Box.Ownership.{box_owns}
@@ -45,10 +45,10 @@ into_loose_spec 𝓤 𝓛 𝓜 𝓡 wired =
     let hs : Stays ended.signature.params ended.kept = (stay_dropped (plain (λ _. held.the_row)) yes, (stay_dropped (plain (λ _. heap.the_row)) yes, tt)) in
     proved_at 𝓛 ended hs c 𝓜 𝓡 (Goes-blank 𝓛 0 (plain (λ _. held.the_row)) yes (λ κs x f. tt), (Goes-blank 𝓛 0 (plain (λ _. heap.the_row)) yes (λ κs x f. tt), tt)) #self fn (code.unfolded 𝓤 H 𝓜 𝓡 wired) (λ z are.
     let d = z.0.3.0 in let a = z.0.3.1.0 in let Post : Val → SProp 𝓤 = (walk_of 𝓛 ended hs c).post z in let Run : List Val → List Val → SProp 𝓤 = λ us ws. WpFn 𝓤 H 𝓣.C 𝓣.Λ fn (us ++ (ws ++ [])) Post in
-    let none : Option Judging = None in
+    let none : Option LogJudge = None in
     qed 𝓛 ((raw (alive 𝓛 ended.signature z.0.0 z.0.1) ⊛ ‵ (owns (types_at ended.signature.params z.0.0) z.0.3 z.0.4)) ∷ raw (fact 𝓤 (d.value ≢ none)) ∷ []) ∵
     move ! (1 ∷ []) $ heard ! (d.value ≢ none) (λ is_some. let x = (value_of d.value is_some).0 in let is = (value_of d.value is_some).1 in let told : Type 0 = d.value ≡ Some x in split ! $ move ! (1 ∷ []) $ fsplit ! $ held_out ! d z.0.4.0 (λ ws.
-    rewrite ! 0 (λ (o : Option Judging). ‵ (held_owns judging_row d.at o)) is refl $
+    rewrite ! 0 (λ (o : Option LogJudge). ‵ (held_owns judging_row d.at o)) is refl $
     use1 𝓛 (‵ (box_owns may_free judging_row d.at x)) (id⊢ 𝓤 _) $
     in_a_block ! d.at (λ p. box_owns may_free judging_row p x) (fst∗ 𝓤 (never 𝓤) (sem 𝓛 (may_free (bare (lone judging_row.mir)) null_ptr))) (λ b o e.
     move ! (1 ∷ []) $ fsplit ! $ handle_tells (al judging_row heap.the_row heap_laws.the_row_laws ghosts) ! a z.0.4.1.0 (λ h ea fits.

@@ -23,8 +23,8 @@ use Rattle.std.proofs.alloc.Global.TheLaws as heap_laws
 use Rattle.std.specs.contracts.impls.GlobalAllocator.TheImpl.{ghosts}
 use Rattle.std.proofs.raw_atomic.Walks.{proved_at, leaves}
 use Rattle.mencius_exports.specs.Holdings.{held_owns}
-use Rattle.mencius_exports.specs.declared.judging.Judging.{Judging}
-use Rattle.mencius_exports.specs.contracts.judging.Judging.{the_row as judging_row}
+use Rattle.mencius_exports.specs.declared.log_judge.LogJudge.{LogJudge}
+use Rattle.mencius_exports.specs.contracts.log_judge.LogJudge.{the_row as judging_row}
 use Rattle.mencius_exports.proofs.LoosePointers.{both, Loose, loose_good, loose_out, one_ptr, held_in}
 use Rattle.mencius_exports.specs.contracts.held.Held.of.{ended, clauses}
 use Rattle.mencius_exports.specs.contracts.held.Held.of.Key.{name as #self}
@@ -40,7 +40,7 @@ of_spec 𝓤 𝓛 𝓜 𝓡 wired =
     let hs : Stays ended.signature.params ended.kept = (stay_dropped (plain (λ _. From)) yes, tt) in
     proved_at 𝓛 ended hs c 𝓜 𝓡 (Goes-blank 𝓛 0 (plain (λ _. From)) yes (λ κs x f. tt), tt) #self fn (code.unfolded 𝓤 H 𝓜 𝓡 wired) (λ z are.
     let v = z.0.3.0 in let Post : Val → SProp 𝓤 = (walk_of 𝓛 ended hs c).post z in let Run : List Val → SProp 𝓤 = λ ws. WpFn 𝓤 H 𝓣.C 𝓣.Λ fn ws Post in
-    let some : Option Judging = Some v.value in
+    let some : Option LogJudge = Some v.value in
     qed 𝓛 ((raw (alive 𝓛 ended.signature z.0.0 z.0.1) ⊛ ‵ (owns (types_at ended.signature.params z.0.0) z.0.3 z.0.4)) ∷ raw ((c z.0.0 z.0.3).requires z.1) ∷ []) ∵
     split ! $ move ! (1 ∷ []) $ fsplit ! $ loose_out judging_row heap.the_row heap_laws.the_row_laws ghosts ! v z.0.4.0 (λ b o h e ws fits.
     let w : Val = both (vptr b o) h in let typed = loose_good judging_row heap.the_row heap_laws.the_row_laws ghosts b o h fits in
