@@ -7,7 +7,7 @@ pub mod ReadLogs
 pub mod ClientCounts
 pub mod Keys
 pub mod KeyLines
-pub mod Fitting
+pub mod FittingAnswers
 pub mod ClientVerdicts
 pub mod ClientLines
 pub mod ClientJson
