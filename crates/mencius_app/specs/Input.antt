@@ -8,7 +8,7 @@ use Rattle.mencius_io.specs.Streams.{most_bytes}
 abbrev pub unless_long : {X : Type 0} → (List ℕ → Result X IoFault) → List ℕ → Result X IoFault
 unless_long read bytes = if nat_lt most_bytes (length bytes) then Err BadLimit else read bytes
 
--- reading some bytes gives x. If the reader's bytes are known, they are these bytes
+-- reading some bytes gives x. They are the bytes of the reader, if those are known
 abbrev pub Says : {X : Type 0} → (List ℕ → Result X IoFault) → Option (List ℕ) → X → Type 0
 Says read known x = (bytes : List ℕ) × IfSome known (λ all. all ≡ bytes) × (read bytes ≡ Ok x)
 

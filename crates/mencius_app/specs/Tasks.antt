@@ -68,9 +68,9 @@ pub record IsReadingCause (IsBadInput : Option (List ℕ) → IoFault → Type 0
   pub read_failed : fault ≡ ReadFailed → HasFailed old.failures new.failures
   pub no_writer : fault ≢ WriteFailed
 
--- the cause of the fault that ended a task. Its input has this fault, or a call of the reader or the writer failed. Any
--- other fault, for example that memory ran out, needs no cause. If the writer failed, the task wrote a prefix of one of
--- its texts, and otherwise it wrote nothing
+-- the cause of the fault that ended a task. If the fault is about the input, then the input has this fault. If it is
+-- ReadFailed or WriteFailed, then a call of the reader or the writer failed. No cause is claimed for other faults, such
+-- as NoMemory. After WriteFailed, the task wrote a prefix of one of its texts. After any other fault, it wrote nothing
 pub record IsCause (t : Task) (s : Streams) (fault : IoFault) : Type 0 where
   pub bad_input : (fault ≡ NotJson) ⊎ (fault ≡ BadShape) ⊎ (fault ≡ BadLimit) → t.IsBadInput s.reader.bytes fault
   pub read_failed : fault ≡ ReadFailed → HasFailed s.reader.failures s.reader_now.failures

@@ -14,13 +14,13 @@ ServerId = ℕ
 abbrev pub Inst : Type 0
 Inst = ℕ
 
--- a ballot as one number. It is the round times the number of servers, plus the server that leads it. Round 0 has only
--- ballot 0, which the owner of the instance leads
+-- a ballot as one number. The owner of an instance leads ballot 0 there, which is the only ballot of round 0. Any other
+-- ballot is its round times the number of servers, plus the server that leads it
 abbrev pub BallotNo : Type 0
 BallotNo = ℕ
 
--- the place of a command in the list of all submitted commands, from 0. `Ticket` is the value of an instance that
--- decides the command
+-- the place of a command in the list of all submitted commands, from 0. The value `Ticket` of an instance has this
+-- number
 abbrev pub TicketNo : Type 0
 TicketNo = ℕ
 

@@ -13,7 +13,7 @@ newest_version = 2
 abbrev pub is_version : ℕ → Bool
 is_version number = nat_le first_version number && nat_le number newest_version
 
--- a text that needs the version `needed` may be in a scenario with this number. A number that is not a version allows
--- the same texts as the first version
+-- whether a scenario with this version number may contain a text that needs the version `needed`. A number that is not a
+-- version allows the same texts as the first version
 abbrev pub may_stand_in : ℕ → ℕ → Bool
 may_stand_in needed number = nat_le needed (if is_version number then number else first_version)

@@ -45,8 +45,8 @@ has_only names no_members = true
 has_only names (member name d ms) = list_any (bytes_eq name) names && has_only names ms
 
 -- the scenario in an object. The object has only the fields for the version, the servers and beta, and fields with the
--- names `others`. These hold the course of the scenario, which is what happens in it. For `replay`, it is the list of
--- events. `course_of` reads the course by the rules of the scenario's version
+-- names `others`. The other fields say what happens in the scenario, which is its course. For `replay`, the course is
+-- the list of events. `course_of` reads the course by the rules of the scenario's version
 unfoldable pub scenario_of : {X : Type 0} → List (List ℕ) → (ℕ → Data → Option X) → Data → Option (Scenario X)
 scenario_of others course_of d = do
   fields ← as_object d

@@ -68,8 +68,8 @@ abbrev pub tried_by : ServerId → Inst → Line → BallotNo
 tried_by p i (Sent (Prepare from inst ballot)) = if from == p && inst == i then ballot else 0
 tried_by p i _ = 0
 
--- The greatest ballot of the Prepares that p sent at i, or 0 if it sent none. Ballot 0 also belongs to the owner of i,
--- which suggests at ballot 0 without a Prepare.
+-- The greatest ballot of the Prepares that p sent at i, or 0 if it sent none. The owner of i needs no Prepare to suggest
+-- at ballot 0.
 abbrev pub tried_ballot : Trace → ServerId → Inst → BallotNo
 tried_ballot w p i = greatest_by (tried_by p i) w
 

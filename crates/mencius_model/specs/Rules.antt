@@ -64,9 +64,9 @@ answer_lines p q i b Silent = []
 
 -- ---- a Promise
 
--- The value that a server proposes at a ballot once a majority has promised that ballot. It is the value of the
--- greatest vote that was reported, or no-op if no vote was reported. The server proposes nothing if it has learned a
--- value, or if a value was already proposed at that ballot.
+-- The value that a server proposes at a ballot once it has heard promises of that ballot from a majority. It is the
+-- value of the reported vote with the greatest ballot, or no-op if no vote was reported. The server proposes nothing if
+-- it has learned a value, or if a value was already proposed at that ballot.
 abbrev pub due_proposal_from : Option Value → Option Value → Bool → Option Vote → Option Value
 due_proposal_from learned proposed majority reported =
     if (is_none learned && is_none proposed) && majority then Some (option_map_or (λ x. x.value) reported Noop) else None
@@ -78,8 +78,8 @@ proposal_lines p i b (Some x) = Sent (Propose p i b x) ∷ []
 
 -- ---- an Accepted
 
--- The value that is decided at a ballot once a majority has accepted that ballot. It is the value that was proposed
--- there. A server that has already learned a value decides nothing.
+-- The value that a server decides at a ballot once it has heard acceptances of that ballot from a majority. It is the
+-- value that was proposed there. A server that has already learned a value decides nothing.
 abbrev pub due_decision_from : Option Value → Option Value → Bool → Option Value
 due_decision_from learned proposed majority = if is_none learned && majority then proposed else None
 

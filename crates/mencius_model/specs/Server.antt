@@ -44,7 +44,7 @@ waiting_at w p i =
     if is_noop (learned_value w p i) && not (list_any (is_suggested_again_by p t i) w) then Some t else None)
     (suggested_ticket w p i)
 
--- The tickets that wait at p, in rising order of the instances that they lost.
+-- The tickets that wait at p, in rising order of the instances at which p learned no-op instead of them.
 abbrev pub waiting_tickets : Trace → ServerId → List TicketNo
 waiting_tickets w p = filter_map (waiting_at w p) instances
 
