@@ -138,7 +138,7 @@ fn picture_text(
 ///
 /// The event at place I is one element `<g id='eI'>`, and message number K is one element `<g id='mK'>`. An event, its
 /// outcomes and its arrow have the place of the event as `data-e`. Only the events from `first` to `last` are drawn.
-/// The foot shows the end of the whole trace. A line that does not occur in any trace is skipped.
+/// The foot shows the end of the whole trace. A line is skipped if its first words begin no line that a picture shows.
 ///
 /// If the part takes more than `MOST_LEVELS` levels, the call returns `TooLarge` with the number of levels. This does
 /// not allocate. A picture allocates memory for its text and for each line of the events that it draws. Apart from
