@@ -1,5 +1,6 @@
 """Tries the random steps of the page. 120 of them must decide, revoke and execute instances, as the schedules of
-conformance/drawing.py do. Twenty steps must take one rendering and one undo, also after 10,000 events."""
+conformance/drawing.py do. 40 must execute a command, with any number of servers. Twenty steps must take one rendering
+and one undo, also after 10,000 events."""
 import readable
 from page_user import URL, act, cursor, same
 from shared import fail, say
@@ -11,6 +12,7 @@ EVENTS = 10_000
 
 def look(browser):
     look_at_the_events(browser)
+    look_at_other_clusters(browser)
     compare_the_texts(browser)
     count_the_renderings(browser)
 
@@ -38,6 +40,22 @@ def look_at_the_events(browser):
     if most > 20:
         fail(f"{browser.name}: {most} of 120 random events are suspicions")
     same(browser, "the refused random events", 0, sum(line[0] == "refused" for line in lines))
+
+
+def look_at_other_clusters(browser):
+    """Also with more servers, which send more messages, the first two clicks for twenty events execute a command."""
+    for servers in (1, 2, 4, 5, 6, 7):
+        browser.open(URL + f"#n={servers}&at=0&e=")
+        browser.click("#random20")
+        browser.click("#random20")
+        browser.click("#tab-texts")
+        lines = [line.split(" ") for line in browser.text("#trace").splitlines()]
+        browser.click("#tab-lesson")
+        if not any(line[0] == "executed" and line[-1] != "no-op" for line in lines):
+            fail(f"{browser.name}: 40 random events of {servers} servers execute no command")
+    browser.open(URL + "#n=3&at=0&e=")
+    for _ in range(6):
+        browser.click("#random20")
 
 
 def compare_the_texts(browser):

@@ -28,6 +28,11 @@ CONTRASTS = """
   };
   const texts = [...document.querySelectorAll('#drawing .later text, #rows .later')];
   return [texts.length, Math.min(...texts.map(contrast))]"""
+# The contrast of the words in an empty field with the field.
+CONTRAST_IN_FIELD = CONTRASTS[:CONTRASTS.index("  const texts =")] + """
+  const field = document.querySelector('#only-instance'), words = getComputedStyle(field, '::placeholder');
+  const ground = parts(getComputedStyle(field).backgroundColor), [, , , alpha = 1] = parts(words.color);
+  return ratio(over([...parts(words.color).slice(0, 3), alpha * parseFloat(words.opacity)], ground, 1), ground)"""
 SMALL_BUTTONS = """return [...document.querySelectorAll('button, select')].map(part => [part, part.getBoundingClientRect()])
   .filter(([, box]) => box.width > 0 && Math.min(box.width, box.height) < %d - 0.5)
   .map(([part, box]) => `${part.outerHTML} ${box.width} ${box.height}`)""" % LEAST_SIZE
@@ -84,6 +89,9 @@ def measure(browser, what):
     count, least = browser.run(CONTRASTS)
     same(browser, f"whether many later texts are measured ({what})", True, count > 10)
     same(browser, f"whether the least contrast of later events, {least:.2f}, is enough ({what})", True,
+         least >= LEAST_CONTRAST)
+    least = browser.run(CONTRAST_IN_FIELD)
+    same(browser, f"whether the contrast of the words in an empty field, {least:.2f}, is enough ({what})", True,
          least >= LEAST_CONTRAST)
 
 

@@ -46,6 +46,11 @@ def read(browser):
     return scenario
 
 
+# The number of buttons in the message, and whether the message is in sight.
+MESSAGE = """const toast = document.getElementById('toast');
+  return [toast.querySelectorAll('button').length, toast.classList.contains('seen')]"""
+
+
 def look(browser):
     browser.open(URL + "#n=3&at=0&e=")
     browser.choose("#example", "one_command")
@@ -53,10 +58,11 @@ def look(browser):
     do(browser, "deliver 0 2")
     same(browser, "the events after an insertion", WANTED, read(browser)["events"])
     take_out_the_sender(browser)
+    undo_by_the_bar(browser)
 
 
 def insert_into_drawn_schedules(browser):
-    for place, event in ((9, "deliver 0 0"), (11, "submit 1 9.0 set a q"), (30, "suspect 2 0")):
+    for place, event in ((9, "deliver 0 0"), (17, "submit 1 9.0 set a q"), (30, "suspect 2 0"), (30, "submit 2 9.0 set a q")):
         insert_into_a_drawn_schedule(browser, place, event)
 
 
@@ -99,7 +105,16 @@ def take_out_the_sender(browser):
     same(browser, "whether the page says that an event is refused", True,
          "1 later event is refused now" in browser.text("#toast"))
     browser.click("#toast [data-undo]")
-    same(browser, "what is left of the message after its undo", [0, False], browser.run("""
-      const toast = document.getElementById('toast');
-      return [toast.querySelectorAll('button').length, toast.classList.contains('seen')]"""))
+    same(browser, "what is left of the message after its undo", [0, False], browser.run(MESSAGE))
     same(browser, "the events after the undo of the message", 6, len(read(browser)["events"]))
+
+
+def undo_by_the_bar(browser):
+    """A message with an undo goes if its change is undone in another way. Its button would undo one more change."""
+    browser.choose("#example", "one_command")
+    act(browser, "before 1")
+    browser.click('#dock [data-do="out"]')
+    same(browser, "whether the message has an undo", True, "undo" in browser.text("#toast"))
+    browser.click("#undo")
+    same(browser, "the message after an undo by the bar", [0, False], browser.run(MESSAGE))
+    same(browser, "the events after the undo by the bar", 6, len(read(browser)["events"]))

@@ -29,7 +29,8 @@ const keyOfPair = (number, server) => 8 * number + server;
 class Drawing {
   // `isAccepted` tells whether the program accepts an event after a schedule.
   constructor(dice, isAccepted) {
-    Object.assign(this, { dice, isAccepted, plot: null, victim: null, cuts: new Map(), late: new Map() });
+    Object.assign(this, { dice, isAccepted, plot: null, victim: null, hasFought: false });
+    Object.assign(this, { cuts: new Map(), late: new Map() });
   }
 
   chance(rate) { return this.dice(100) < rate; }
@@ -72,16 +73,20 @@ class Drawing {
     return value ?? null;
   }
 
+  // Nothing is disturbed before a command was executed, so a new page soon shows how that happens. The first disturbance
+  // after that is a suspicion.
   disturb() {
+    if (this.trace.commands.size === 0 && this.added.length === 0) this.plot = this.burst();
+    if (this.trace.histories.every(ids => ids.length === 0)) return this.goOn();
     if (this.chance(RATES.cuts)) this.cuts.set(this.victim = this.dice(this.servers), this.time + 10 + this.dice(20));
-    if (this.chance(RATES.suspicion)) this.plot = this.fight();
+    if (!this.hasFought || this.chance(RATES.suspicion)) this.plot = this.fight();
     else if (this.chance(RATES.submissions) && this.onWay.length <= CROWDED * this.servers) this.plot = this.burst();
     else if (this.chance(RATES.retry)) return this.retry();
     return this.goOn();
   }
 
   settle() {
-    return (this.chance(60) && this.execute()) || this.deliver() || this.execute() || this.retry()
+    return (this.chance(80) && this.execute()) || this.deliver() || this.execute() || this.retry()
       || (this.chance(70) && this.unblock()) || null;
   }
 
@@ -132,6 +137,7 @@ class Drawing {
   // Rounds of suspicions of one server, usually the same one as before. Chance decides how far a round gets, so votes
   // and promises of several ballots exist together.
   * fight() {
+    this.hasFought = true;
     if (this.victim === null || this.chance(25)) this.victim = this.dice(this.servers);
     const victim = this.victim % this.servers, others = this.all.filter(server => server !== victim);
     if (others.length === 0) return;
@@ -167,11 +173,22 @@ class Drawing {
 
   // ---- messages
 
-  // Delivers a useful message, usually the oldest one.
+  // Delivers a useful message. Usually a server waits for it, or it is the oldest one.
   deliver() {
-    const isNear = pair => this.reaches(pair), oldest = this.onWay.find(isNear);
-    if (!oldest) return null;
-    return this.handOver(this.chance(30) ? this.pick(this.onWay.filter(isNear)) : oldest);
+    const near = this.onWay.filter(pair => this.reaches(pair));
+    if (near.length === 0) return null;
+    if (this.chance(20)) return this.handOver(this.pick(near));
+    return this.handOver(near.findLast(pair => this.isAwaited(pair)) ?? near[0]);
+  }
+
+  // Whether the message helps the server that executed most to learn its next instance. The messages of that instance
+  // decide it, or a Skip of its owner does. The owner sends a Skip once it hears a Suggest at a later instance.
+  isAwaited({ number, to }) {
+    const ahead = this.all.reduce((one, other) => (this.next[other] > this.next[one] ? other : one));
+    const { kind, from, instance } = this.trace.messages[number], next = this.next[ahead], owner = next % this.servers;
+    if (kind === 'Skip') return to === ahead && from === owner;
+    if (kind === 'Suggest' && instance > next) return to === owner;
+    return instance === next && (kind !== 'Learn' || to === ahead);
   }
 
   // Whether the message is neither late nor between servers of which one is cut off.

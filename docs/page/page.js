@@ -18,6 +18,7 @@ const page = {
 
 // Says something for a while, with a button to undo the last change if `isUndoable`.
 function say(text, isUndoable = false) {
+  if ($('toast').contains(document.activeElement)) focusPicture();
   $('toast').replaceChildren(text, ...isUndoable ? [' ', el('button', { 'data-undo': true }, 'undo')] : []);
   $('toast').classList.add('seen');
   placeMessage();
@@ -112,6 +113,8 @@ function formerTrace(text) {
 function become(schedule, cursor, isKept = true) {
   const whole = traceOf(schedule);
   if (!whole) return false;
+  // The button of a message undoes only the change that the message is about.
+  if ($('toast').querySelector('[data-undo]')) hideMessage();
   if (isKept) {
     page.past.push({ schedule: page.schedule, cursor: page.cursor });
     if (page.past.length > UNDONE) page.past.shift();
