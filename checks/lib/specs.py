@@ -13,7 +13,7 @@ COMMENT = "--"
 HEADER = re.compile(r"^((?:abbrev |unfoldable |pub |record |data )*)([^\s(){}:]+)(.*)$")
 NO_DEFINITION = re.compile(r"(?:pub )?(?:use|mod) |infix|open ")
 USE = re.compile(r"^\s*(?:pub |ghost )*use ([^\s{;]+?)(?:\.\{([^}]*)\})?(?: as (\S+?))?;?\s*$", re.MULTILINE)
-TOKEN = re.compile(r"[^\s(){}\[\];,λ→×⊎↦|@]+")
+TOKEN = re.compile(r"\|\||⊎|[^\s(){}\[\];,λ→×⊎↦|@]+")
 # Words of the language, and three constructors that need no import.
 WORDS = set("""let in if then else do elim record data where open use as cond λ Type abbrev pub unfoldable unfolding
 module infixl infixr infix rw cc omega absurd tt Unit ⊥ refl""".split())

@@ -100,7 +100,7 @@ learning_lines p i x learned = if is_none learned then Learned p i x ∷ [] else
 abbrev pub is_open_from : Membership → ServerId → Inst → Option Value → Bool
 is_open_from m q i learned = owner m i == q && is_none learned
 
--- The last place that a suspicion may cover, or `None` if it covers nothing. The last argument is the lowest open
+-- The last instance that a suspicion may cover, or `None` if it covers nothing. The last argument is the lowest open
 -- instance of the suspected server. If it is below front + beta, the result is front + 2 * beta. Otherwise, and if no
 -- instance is open, it is `None`. It is twice beta so that, once the covered instances are learned, the next suspicion
 -- covers nothing until the front has moved by more than beta.

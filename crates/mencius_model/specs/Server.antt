@@ -10,7 +10,7 @@ use Rattle.mencius_model.specs.Trace.{Line, Executed, Sent, Trace, greatest_by, 
 use Rattle.mencius_model.specs.Instance.{learned_value}
 use Rattle.mencius_model.specs.Rules.{is_covered_from, is_free_from, is_noop, is_open_from, reach_from}
 
--- The place that a line moves p's front to, or 0 if the line is neither a Suggest nor a Skip by p.
+-- The instance that a line moves p's front to, or 0 if the line is neither a Suggest nor a Skip by p.
 abbrev pub front_by : Membership → ServerId → Line → Inst
 front_by m p (Sent (Suggest from inst ticket)) = if from == p then inst + m.count else 0
 front_by m p (Sent (Skip from first stop)) = if from == p then stop else 0
@@ -52,7 +52,7 @@ waiting_tickets w p = filter_map (waiting_at w p) instances
 abbrev pub free_instance : Membership → Trace → ServerId → Option Inst
 free_instance m w p = find (λ i. is_free_from m p (front m w p) i (learned_value w p i)) instances
 
--- The last place that a suspicion of q by p may cover, or `None` if the suspicion covers nothing. It depends on the
+-- The last instance that a suspicion of q by p may cover, or `None` if the suspicion covers nothing. It depends on the
 -- lowest instance of q that p has not learned.
 abbrev pub reach : Membership → Trace → ServerId → ServerId → Option Inst
 reach m w p q = reach_from m (front m w p) (find (λ i. is_open_from m q i (learned_value w p i)) instances)
