@@ -21,3 +21,8 @@ pub mod KeyParts
 pub mod Verdicts
 pub mod Counting
 pub mod FoundCommands
+pub mod LocalityLogs
+pub mod LocalityOrders
+pub mod LocalityWhole
+pub mod LocalitySorting
+pub mod LocalityMerging

@@ -8,6 +8,7 @@ pub mod ClientCounts
 pub mod Keys
 pub mod KeyLines
 pub mod FittingAnswers
+pub mod Locality
 pub mod ClientVerdicts
 pub mod ClientLines
 pub mod ClientJson

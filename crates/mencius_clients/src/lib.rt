@@ -15,6 +15,7 @@ mod fitting_answers;
 mod identities;
 mod key_lines;
 mod key_search;
+pub mod laws;
 mod line_keys;
 mod orders;
 mod outcome;
