@@ -26,3 +26,7 @@ pub mod LocalityOrders
 pub mod LocalityWhole
 pub mod LocalitySorting
 pub mod LocalityMerging
+pub mod KeyOrderSteps
+pub mod KeyOrderSorting
+pub mod KeyOrderRight
+pub mod KeyOrderEntries

@@ -17,13 +17,15 @@ use Rattle.mencius_judge.proofs.keys.TextMaps.{other_bytes, same_bytes}
 use Rattle.mencius_judge.proofs.observations.OrderSteps.{split_at}
 use Rattle.mencius_judge.proofs.promises.Identities.{same_id, same_id_eq}
 use Rattle.mencius_judge.proofs.promises.Logs.{contains_cons, contains_none, command_found, known}
+use Rattle.mencius_clients.specs.declared.timed_command.TimedCommand.{TimedCommand}
 use Rattle.mencius_clients.specs.ClientCounts.{has_key}
 use Rattle.mencius_clients.specs.Explained.{IsLinearizable}
-use Rattle.mencius_clients.specs.Locality.{IsLocal, IsTimed, acknowledged_at, ids_of, is_of_key, is_on_key, log_of_key, order_of_key, submitted_at, TimedCommand}
+use Rattle.mencius_clients.specs.Locality.{IsLocal, IsTimed, acknowledged_at, ids_of, is_of_key, is_on_key, log_of_key, order_of_key, submitted_at}
 use Rattle.mencius_clients.proofs.Lacking.{IsOnce, has_item, lacks}
 use Rattle.mencius_clients.proofs.LocalityLogs.{before_if_earlier, before_kept, command_dropped, command_kept}
 use Rattle.mencius_clients.proofs.LocalityOrders.{once_splits}
-use Rattle.mencius_clients.proofs.LocalitySorting.{sorted, Each, IsSorted, each_all, each_append, filter_all, filter_ids, filter_none, kept_order, sorted_each, sorted_rising, sorted_sorted}
+use Rattle.mencius_clients.proofs.LocalitySorting.{Each, IsSorted, each_all, each_append, filter_all, filter_ids, filter_none, kept_order, sorted_each, sorted_rising, sorted_sorted}
+use Rattle.mencius_clients.specs.KeyOrders.{sorted}
 use Rattle.mencius_clients.proofs.LocalityWhole.{by_moments, restricted}
 
 -- ---- lists

@@ -5,17 +5,9 @@ use Rattle.std.proofs.lemmas.Bool.{cases_Bool, le-leb, leb-false, leb-true}
 use Rattle.std.proofs.lemmas.List.Elements.{All-cons, All-nil}
 use Rattle.std.proofs.lemmas.List.Kept.{AllPairs-cons}
 use Rattle.mencius_base.specs.declared.command.CommandId.{CommandId}
-use Rattle.mencius_clients.specs.Locality.{AreRising, ids_of, TimedCommand}
-
--- the list with one command more, before the first one that has no earlier moment
-abbrev pub insert : TimedCommand → List TimedCommand → List TimedCommand
-insert c [] = c ∷ []
-insert c (d ∷ ds) = cond (leb c.moment d.moment) (c ∷ d ∷ ds) (d ∷ insert c ds)
-
--- the commands sorted by moments. Commands with the same moment keep their order
-abbrev pub sorted : List TimedCommand → List TimedCommand
-sorted [] = []
-sorted (c ∷ cs) = insert c (sorted cs)
+use Rattle.mencius_clients.specs.declared.timed_command.TimedCommand.{TimedCommand}
+use Rattle.mencius_clients.specs.Locality.{AreRising, ids_of}
+use Rattle.mencius_clients.specs.KeyOrders.{insert, sorted}
 
 -- ---- lists of commands
 

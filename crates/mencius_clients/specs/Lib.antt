@@ -9,6 +9,7 @@ pub mod Keys
 pub mod KeyLines
 pub mod FittingAnswers
 pub mod Locality
+pub mod KeyOrders
 pub mod ClientVerdicts
 pub mod ClientLines
 pub mod ClientJson

@@ -8,6 +8,7 @@ use Rattle.mencius_log.specs.declared.observation.Observation.{Observation}
 use Rattle.mencius_log.specs.declared.observation.Observation.TheVariants.{Submit, Execute, Reply, Lookup, Tell, Settle, Restore}
 use Rattle.mencius_judge.specs.Linearization.{IsLinearization}
 use Rattle.mencius_judge.specs.Log.{Log, acknowledged, command_of, has_id}
+use Rattle.mencius_clients.specs.declared.timed_command.TimedCommand.{TimedCommand}
 use Rattle.mencius_clients.specs.Explained.{IsLinearizable}
 
 -- ---- one key
@@ -50,11 +51,6 @@ LinearizesEachKey =
     → (key : List ℕ) → IsLinearization (log_of_key w key) (order_of_key w key order)
 
 -- ---- moments
-
--- a command, and a moment at which it may have taken effect. The moment is the number of lines before it
-pub record TimedCommand : Type 0 where
-  pub moment : ℕ
-  pub id : CommandId
 
 -- the number of lines before the first submission of a command
 abbrev pub submitted_at : Log → CommandId → ℕ

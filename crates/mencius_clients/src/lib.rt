@@ -26,6 +26,7 @@ mod slots;
 mod steps;
 mod tables;
 mod texts;
+mod timed_command;
 mod twins;
 mod work;
 
