@@ -125,7 +125,7 @@ before_heard (Tell r p ∷ w) id = before_heard w id
 before_heard (Settle p ∷ w) id = before_heard w id
 before_heard (Restore p q n ∷ w) id = before_heard w id
 
-reply_still : (w : Log) (id : CommandId) (x : Answer) → Contains w (Reply id x) → Contains (heard w) (Reply id x)
+pub reply_still : (w : Log) (id : CommandId) (x : Answer) → Contains w (Reply id x) → Contains (heard w) (Reply id x)
 reply_still [] id x h = absurd (contains_none (Reply id x) h)
 reply_still (Submit c ∷ w) id x h =
     elim (contains_cons (Submit c) w (Reply id x) h) [

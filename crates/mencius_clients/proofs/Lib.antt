@@ -30,3 +30,8 @@ pub mod KeyOrderSteps
 pub mod KeyOrderSorting
 pub mod KeyOrderRight
 pub mod KeyOrderEntries
+pub mod OrderGrowth
+pub mod OrderTrails
+pub mod OrdersFound
+pub mod SoundSteps
+pub mod SearchFound

@@ -13,10 +13,13 @@ use Rattle.mencius_log.specs.declared.observation.Observation.TheVariants.{Reply
 use Rattle.mencius_judge.specs.Log.{is_failed}
 use Rattle.mencius_judge.specs.Tables.{identity_key, number_count}
 use Rattle.mencius_judge.proofs.promises.Identities.{get_here, get_there, id_cases}
-use Rattle.mencius_clients.specs.Configurations.{AreReplyLines, HasReplyLine, IsIdle, IsUnacknowledged, is_read}
+use Rattle.mencius_clients.specs.Configurations.{AreReplyLines, HasNote, HasReplyLine, IsIdle, IsUnacknowledged, is_read}
 
 pub none_noted : (log : List Observation) (m : BTreeMap ℕ ℕ) → AreReplyLines log m 0
-none_noted log m = record { known = λ n id x less. absurd (omega (arith, less)) }
+none_noted log m = record {
+  known = λ n id x less. absurd (omega (arith, less));
+  noted = λ n id x less. absurd (omega (arith, less));
+}
 
 either : (n k : ℕ) → n < k + 1 → (n ≡ k) ⊎ (n < k)
 either n k less = grind arith
@@ -29,6 +32,12 @@ noted_before log m line here h = record {
   known = λ n id x less at counts small. elim (either n line less) [
     | inl e ↦ here id x (ap (slice_get log) (sym e) ∙ at)
     | inr e ↦ h.known n id x e at counts small
+  ];
+  noted = λ n id x less at small. elim (either n line less) [
+    | inl e ↦
+        let known = here id x (ap (slice_get log) (sym e) ∙ at) in
+        record { line = known.line; answer = known.answer; there = known.there; says = known.says }
+    | inr e ↦ h.noted n id x e at small
   ];
 }
 
@@ -60,6 +69,27 @@ noted_now log m new line id x at small fresh updates h = record {
             counts = old.counts;
           }
         ]
+  ];
+  noted = λ n y z less there tiny. elim (id_cases id y) [
+    | inl same ↦ record {
+      line = line;
+      answer = x;
+      there = subst (λ (v : CommandId). get nat_cmp new (identity_key v) ≡ Some line) same (get_here m new id line updates);
+      says = subst (λ (v : CommandId). slice_get log line ≡ Some (Reply v x)) same at;
+    }
+    | inr ne ↦ elim (either n line less) [
+      | inl e ↦
+          let now : slice_get log line ≡ Some (Reply y z) = ap (slice_get log) (sym e) ∙ there in
+          let same : id ≡ y = cc in
+          absurd (ne same)
+      | inr e ↦
+          let old = h.noted n y z e there tiny in record {
+            line = old.line;
+            answer = old.answer;
+            there = get_there m new id y line updates small tiny ne ∙ old.there;
+            says = old.says;
+          }
+    ]
   ];
 }
 
@@ -98,3 +128,9 @@ pub idle_read : (log : List Observation) (m : BTreeMap ℕ ℕ) (c : Command) (i
     → IsIdle log c
 idle_read log m c id same small h none read =
     (subst (IsUnacknowledged log) same (unacknowledged log m id small h none), inl read)
+
+-- a command without a note has no reply
+pub no_reply : (log : List Observation) (m : BTreeMap ℕ ℕ) (id : CommandId) → id.number < number_count
+    → AreReplyLines log m (length log) → (HasNote log m id → ⊥) → (x : Answer) → Contains log (Reply id x) → ⊥
+no_reply log m id small h none x it =
+    none (h.noted it.0 id x it.1 (slice_get-get_or log it.0 (Reply id x) it.1 ∙ ap Some it.2) small)

@@ -298,7 +298,16 @@ pub record HasReplyLine (log : List Observation) (replies : BTreeMap ℕ ℕ) (i
   pub says : slice_get log line ≡ Some (Reply id answer)
   pub counts : is_failed answer ≡ false
 
+-- the map has the line of a reply to the command
+pub record HasNote (log : List Observation) (replies : BTreeMap ℕ ℕ) (id : CommandId) : Type 0 where
+  pub line : ℕ
+  pub answer : Answer
+  pub there : get nat_cmp replies (identity_key id) ≡ Some line
+  pub says : slice_get log line ≡ Some (Reply id answer)
+
 -- the map has such a line for each command that has such a reply in the first `count` lines
 pub record AreReplyLines (log : List Observation) (replies : BTreeMap ℕ ℕ) (count : ℕ) : Type 0 where
   pub known : (n : ℕ) (id : CommandId) (x : Answer) → n < count → slice_get log n ≡ Some (Reply id x)
       → is_failed x ≡ false → id.number < number_count → HasReplyLine log replies id
+  pub noted : (n : ℕ) (id : CommandId) (x : Answer) → n < count → slice_get log n ≡ Some (Reply id x)
+      → id.number < number_count → HasNote log replies id

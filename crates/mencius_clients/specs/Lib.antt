@@ -10,6 +10,7 @@ pub mod KeyLines
 pub mod FittingAnswers
 pub mod Locality
 pub mod KeyOrders
+pub mod OrdersSoFar
 pub mod ClientVerdicts
 pub mod ClientLines
 pub mod ClientJson

@@ -1,10 +1,11 @@
 //! Replies: when one is right, and which one counts.
 
-ghost use Rattle.std.specs.Prelude.{◌≡◌, ◌↔◌, ◌<◌, ◌+◌, true, false, IfOk, IfSome, IsTrue, MatchOption, OnOk, Contains, Some, length, slice_get};
+ghost use Rattle.std.specs.Prelude.{⊤, ◌≡◌, ◌↔◌, ◌<◌, ◌+◌, true, false, IfOk, IfSome, IsTrue, MatchOption, OnOk, Contains, Some, length, slice_get};
+ghost use Rattle.mencius_log.specs.declared.observation.Answer.{Answer};
 ghost use Rattle.mencius_log.specs.declared.observation.Observation.TheVariants.{Reply};
 ghost use Rattle.mencius_judge.specs.Answers.{IsRight, is_done, is_without_effect};
 ghost use Rattle.mencius_judge.specs.Log.{is_failed};
-ghost use Rattle.mencius_clients.specs.Configurations.{AreReplyLines, HasReplyLine, IsAcknowledged, IsIdle, IsUnacknowledged, is_read, text_at};
+ghost use Rattle.mencius_clients.specs.Configurations.{AreReplyLines, HasNote, HasReplyLine, IsAcknowledged, IsIdle, IsUnacknowledged, is_read, text_at};
 
 use crate::identities::identity_key;
 use crate::tables::put;
@@ -66,6 +67,7 @@ pub fn reply_at<'a>(
     ensures counts { MatchOption result (HasReplyLine log.now replies.now id → ⊥)
         (λ answer. is_failed answer.now ≡ false → HasReplyLine log.now replies.now id) }
     ensures failed { IfSome result (λ answer. HasReplyLine log.now replies.now id → is_failed answer.now ≡ false) }
+    ensures none { MatchOption result (HasNote log.now replies.now id → ⊥) (λ answer. ⊤) }
 {
     match replies.get(&identity_key(id)) {
         Some(line) => match log.get(*line) {
@@ -146,7 +148,9 @@ pub fn is_unacknowledged(
 /// Returns whether a command has no reply other than `failed`, and changes nothing.
 pub fn is_idle(log: &[Observation], replies: &BTreeMap<u64, usize>, command: &Command) -> bool
     requires { AreReplyLines log.now replies.now (length log.now) }
-    ensures { IsTrue result → IsIdle log.now command.now }
+    ensures idle { IsTrue result → IsIdle log.now command.now }
+    ensures other { result ≡ false → IsUnacknowledged log.now command.now.id
+        → (reply : Answer) → Contains log.now (Reply command.now.id reply) → ⊥ }
 {
     match reply_at(log, replies, command.id()) {
         Some(answer) => is_failed(answer),
@@ -171,7 +175,9 @@ pub fn reads_text(
     held: usize,
     command: &Command,
 ) -> bool
-    ensures { IsTrue result → IsAcknowledged log.now command.now.id × (is_read command.now.op ≡ true) }
+    ensures read { IsTrue result → IsAcknowledged log.now command.now.id × (is_read command.now.op ≡ true) }
+    ensures right { IsTrue result → (answer : Answer) × Contains log.now (Reply command.now.id answer)
+        × IsRight command.now.op (text_at log.now held) answer }
 {
     if !is_read(command.op()) {
         return false;

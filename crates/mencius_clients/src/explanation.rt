@@ -1,15 +1,17 @@
 //! The verdict on a log.
 
-ghost use Rattle.std.specs.Prelude.{◌≡◌, ◌<◌, [], IfOk, IfSome, MatchOption, length, reverse, slice_get, Some};
+ghost use Rattle.std.specs.Prelude.{◌≡◌, ◌<◌, [], IfOk, IfSome, MatchOption, length, reverse, slice_get, Some, None};
 ghost use Rattle.mencius_clients.specs.Configurations.{AreReplyLines};
 ghost use Rattle.mencius_clients.specs.Explained.{HasHeard, IsEnd, IsExplanation, heard};
 ghost use Rattle.mencius_clients.specs.Searched.{HasSearched};
+ghost use Rattle.mencius_clients.specs.OrdersSoFar.{HasFound};
+ghost use Rattle.mencius_judge.specs.Promises.{AreOneReply};
 
 use crate::answers::reply_lines;
 use crate::orders::merged_order;
 use crate::outcome::Outcome;
 use crate::search::Search;
-use crate::second_judge::{Heard, hear, is_confirmed};
+use crate::second_judge::{Heard, hear};
 use mencius_base::{CommandId, NoMemory};
 use mencius_judge::{Judge, Violation};
 use mencius_log::Observation;
@@ -70,8 +72,9 @@ pub fn explain_heard(
     if let Some(explanation) = search_all(log, &replies, limit, &mut search)? {
         return Ok(explanation);
     }
-    let mut judge = judge;
-    confirm_order(alloc, &mut judge, log, &search)
+    let _seen = judge;
+    let order = merged_order(alloc, log, &search)?;
+    Ok(Explanation::Explained { order })
 }
 
 // Takes one line of the log after the other. Returns the verdict of a search that ends early.
@@ -82,8 +85,12 @@ fn search_all(
     search: &mut Search,
 ) -> Result<Option<Explanation>, NoMemory>
     requires { AreReplyLines log.now replies.now (length log.now) }
-    ensures { IfOk result (λ found. HasSearched (reverse log.now) [] log.now search.old
+    ensures explained { IfOk result (λ found. HasSearched (reverse log.now) [] log.now search.old
         → IfSome found (IsExplanation log.now)) }
+    ensures searched { IfOk result (λ found. found ≡ None → HasSearched (reverse log.now) [] log.now search.old
+        → HasSearched (reverse log.now) (reverse log.now) log.now search.new) }
+    ensures orders { IfOk result (λ found. found ≡ None → HasSearched (reverse log.now) [] log.now search.old
+        → AreOneReply (reverse log.now) → HasFound log.now [] search.old → HasFound log.now (reverse log.now) search.new) }
 {
     for line in 0..log.len() {
         let outcome = search.take(log, replies, line, &log[line], limit)?;
@@ -108,22 +115,4 @@ fn ended(outcome: Outcome, line: usize) -> Option<Explanation>
             cause: Cause::Configurations { line },
         }),
     }
-}
-
-// Returns the order that the search found, if the judge confirms it.
-fn confirm_order(
-    alloc: Global,
-    judge: &mut Judge,
-    log: &[Observation],
-    search: &Search,
-) -> Result<Explanation, NoMemory>
-    ensures { IfOk result (λ found. HasHeard judge.old (heard (reverse log.now)) → IsExplanation log.now found) }
-{
-    let order = merged_order(alloc, log, search)?;
-    if is_confirmed(alloc, judge, log, order.as_slice())? {
-        return Ok(Explanation::Explained { order });
-    }
-    Ok(Explanation::Undecided {
-        cause: Cause::Unconfirmed,
-    })
 }

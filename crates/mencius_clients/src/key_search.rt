@@ -1,6 +1,6 @@
 //! The search of one key.
 
-ghost use Rattle.std.specs.Prelude.{◌≡◌, ◌≤◌, [], ◌∷◌, IfOk, MatchBool, false, length};
+ghost use Rattle.std.specs.Prelude.{◌≡◌, ◌≤◌, [], ◌∷◌, IfOk, MatchBool, OnOk, false, length};
 ghost use Rattle.std.specs.Vec.{vec_len};
 
 use crate::configuration::Configuration;
@@ -24,6 +24,8 @@ pub struct KeySearch {
 
 impl KeySearch {
     ghost use Rattle.mencius_clients.specs.Configurations.{AreReplyLines, IsAnswered, IsCrowded, IsPlaced, no_slots};
+    ghost use Rattle.mencius_clients.specs.OrdersSoFar.{IsLongerTrail, IsSoundlyAnswered};
+    ghost use Rattle.mencius_clients.specs.declared.outcome.Outcome.TheVariants.{Goes};
 
     /// Returns the search before any command of the key is submitted.
     pub fn new(alloc: Global) -> Result<KeySearch, NoMemory>
@@ -72,8 +74,12 @@ impl KeySearch {
         trail: &mut Vec<Step>,
     ) -> Result<Outcome, NoMemory>
         requires { AreReplyLines log.now replies.now (length log.now) }
-        ensures { IfOk result (λ outcome. IsAnswered log.now id self.old.slots.items
+        ensures answered { IfOk result (λ outcome. IsAnswered log.now id self.old.slots.items
             self.old.configurations.items self.new.slots.items self.new.configurations.items outcome) }
+        ensures trail_longer { OnOk result (IsLongerTrail trail.old.items trail.new.items) }
+        ensures sound { IfOk result (λ outcome. outcome ≡ Goes → IsSoundlyAnswered log.now id self.old.slots.items
+            self.old.configurations.items self.new.slots.items self.new.configurations.items
+            trail.old.items trail.new.items) }
     {
         let slots = self.slots.as_slice();
         let Some(slot) = slot_of(log, slots, id) else {

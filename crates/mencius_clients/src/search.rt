@@ -34,10 +34,14 @@ pub struct Search {
 
 impl Search {
     ghost use Rattle.mencius_clients.specs.Searched.{HasSearched, IsAfter, called_at, configurations_of, slots_of};
+    ghost use Rattle.mencius_clients.specs.OrdersSoFar.{HasFound, IsLongerTrail, IsSoundlyAnswered};
+    ghost use Rattle.mencius_clients.specs.declared.outcome.Outcome.TheVariants.{Goes};
+    ghost use Rattle.mencius_judge.specs.Promises.{AreOneReply};
 
     /// Returns the search before the first line.
     pub fn new(alloc: Global) -> Search
-        ensures { (w : Log) (log : List Observation) → HasSearched w [] log result }
+        ensures searched { (w : Log) (log : List Observation) → HasSearched w [] log result }
+        ensures found { (log : List Observation) → HasFound log [] result }
     {
         Search {
             alloc,
@@ -58,13 +62,22 @@ impl Search {
     ) -> Result<Outcome, NoMemory>
         requires line { slice_get log.now line ≡ Some observation.now }
         requires replies { AreReplyLines log.now replies.now (length log.now) }
-        ensures { IfOk result (λ outcome. (u later : Log) → reverse log.now ≡ later ++ observation.now ∷ u
+        ensures after { IfOk result (λ outcome. (u later : Log) → reverse log.now ≡ later ++ observation.now ∷ u
             → HasSearched (reverse log.now) u log.now self.old
             → IsAfter (reverse log.now) (observation.now ∷ u) log.now self.new outcome) }
+        ensures found { IfOk result (λ outcome. (u later : Log) → reverse log.now ≡ later ++ observation.now ∷ u
+            → line ≡ length u → AreOneReply (reverse log.now) → HasSearched (reverse log.now) u log.now self.old
+            → HasFound log.now u self.old → outcome ≡ Goes → HasFound log.now (observation.now ∷ u) self.new) }
     {
         match observation {
-            Observation::Submit { command } => self.call(log, replies, line, command),
-            Observation::Reply { id, answer } => self.reply(log, replies, *id, answer, limit),
+            Observation::Submit { command } => {
+                let called = self.call(log, replies, line, command)?;
+                Ok(called)
+            }
+            Observation::Reply { id, answer } => {
+                let replied = self.reply(log, replies, *id, answer, limit)?;
+                Ok(replied)
+            }
             _ => Ok(Outcome::Goes),
         }
     }
@@ -78,9 +91,12 @@ impl Search {
     ) -> Result<Outcome, NoMemory>
         requires line { slice_get log.now line ≡ Some (Submit command.now) }
         requires replies { AreReplyLines log.now replies.now (length log.now) }
-        ensures { IfOk result (λ outcome. (u later : Log) → reverse log.now ≡ later ++ Submit command.now ∷ u
+        ensures after { IfOk result (λ outcome. (u later : Log) → reverse log.now ≡ later ++ Submit command.now ∷ u
             → HasSearched (reverse log.now) u log.now self.old
             → IsAfter (reverse log.now) (Submit command.now ∷ u) log.now self.new outcome) }
+        ensures found { IfOk result (λ outcome. (u later : Log) → reverse log.now ≡ later ++ Submit command.now ∷ u
+            → line ≡ length u → HasSearched (reverse log.now) u log.now self.old → HasFound log.now u self.old
+            → outcome ≡ Goes → HasFound log.now (Submit command.now ∷ u) self.new) }
     {
         let id = command.id();
         if let Some(_known) = self.called(log, id) {
@@ -108,6 +124,7 @@ impl Search {
             ≡ configurations_of (get_by_text self.old.by_key key.now))) }
         ensures others { IfOk result (λ placed. OnTrue placed ((x : List ℕ) → x ≢ key.now
             → get_by_text self.new.by_key x ≡ get_by_text self.old.by_key x)) }
+        ensures trail { self.new.trail ≡ self.old.trail }
     {
         let mut search = self.take_key(key)?;
         if !search.call(log, line)? {
@@ -125,6 +142,7 @@ impl Search {
             ≡ configurations_of (get_by_text self.old.by_key key.now)) }
         ensures others { (x : List ℕ) → x ≢ key.now
             → get_by_text self.new.by_key x ≡ get_by_text self.old.by_key x }
+        ensures trail { self.new.trail ≡ self.old.trail }
     {
         match self.by_key.remove(key) {
             Some(search) => Ok(search),
@@ -141,9 +159,12 @@ impl Search {
         limit: usize,
     ) -> Result<Outcome, NoMemory>
         requires { AreReplyLines log.now replies.now (length log.now) }
-        ensures { IfOk result (λ outcome. (u later : Log) → reverse log.now ≡ later ++ Reply id answer.now ∷ u
+        ensures after { IfOk result (λ outcome. (u later : Log) → reverse log.now ≡ later ++ Reply id answer.now ∷ u
             → HasSearched (reverse log.now) u log.now self.old
             → IsAfter (reverse log.now) (Reply id answer.now ∷ u) log.now self.new outcome) }
+        ensures found { IfOk result (λ outcome. (u later : Log) → reverse log.now ≡ later ++ Reply id answer.now ∷ u
+            → AreOneReply (reverse log.now) → HasSearched (reverse log.now) u log.now self.old → HasFound log.now u self.old
+            → outcome ≡ Goes → HasFound log.now (Reply id answer.now ∷ u) self.new) }
     {
         if is_failed(answer) {
             return Ok(Outcome::Goes);
@@ -182,6 +203,11 @@ impl Search {
             (configurations_of (get_by_text self.new.by_key key.now)) outcome) }
         ensures others { OnOk result ((x : List ℕ) → x ≢ key.now
             → get_by_text self.new.by_key x ≡ get_by_text self.old.by_key x) }
+        ensures trail_longer { OnOk result (IsLongerTrail self.old.trail.items self.new.trail.items) }
+        ensures sound { IfOk result (λ outcome. outcome ≡ Goes → IsSoundlyAnswered log.now id
+            (slots_of (get_by_text self.old.by_key key.now)) (configurations_of (get_by_text self.old.by_key key.now))
+            (slots_of (get_by_text self.new.by_key key.now)) (configurations_of (get_by_text self.new.by_key key.now))
+            self.old.trail.items self.new.trail.items) }
     {
         let mut search = self.take_key(key)?;
         let outcome = search.reply(self.alloc, log, replies, id, limit, &mut self.trail)?;

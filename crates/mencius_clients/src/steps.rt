@@ -6,6 +6,7 @@ ghost use Rattle.mencius_log.specs.declared.observation.Observation.{Observation
 ghost use Rattle.mencius_log.specs.declared.observation.Observation.TheVariants.{Reply};
 ghost use Rattle.mencius_judge.specs.Log.{is_failed};
 ghost use Rattle.mencius_clients.specs.declared.configuration.Configuration.{Configuration};
+ghost use Rattle.mencius_clients.specs.OrdersSoFar.{AreReachable, AreSoundlySettled, AreWithin, IsLongerTrail, IsReachable, IsSoundEffect, IsSoundRead, IsSoundlyFreed, numbered, trail_with};
 ghost use Rattle.mencius_clients.specs.Configurations.{AllFollow, AreLost, AreReplyLines, Calls, FollowsAt, HasLess, HasRead, IsBarred, IsFreed, IsLonger, IsOneOf, IsPassed, IsRead, IsReadOn, IsRefuted, IsSettled, IsStep, IsUnacknowledged, become, has_slot, submitted_by, text_at, waiting};
 
 use crate::answers::{is_right_at, is_unacknowledged, reads_text, reply_at};
@@ -65,8 +66,9 @@ fn answered_step(
     requires line { submitted_by (slice_get log.now line) ≡ Some command.now }
     requires answer { Contains log.now (Reply command.now.id answer.now) }
     requires counts { is_failed answer.now ≡ false }
-    ensures { MatchOption result (IsRefuted log.now command.now from.now)
+    ensures step { MatchOption result (IsRefuted log.now command.now from.now)
         (λ c. (calls : Calls) → IsStep log.now calls slot command.now from.now c) }
+    ensures sound { IfSome result (λ c. IsSoundEffect log.now slot command.now from.now c) }
 {
     if !is_right_at(log, from.text, command.op(), answer) {
         return None;
@@ -86,8 +88,9 @@ fn unanswered_step(
     requires slot { slot < 4096 }
     requires line { submitted_by (slice_get log.now line) ≡ Some command.now }
     requires unacknowledged { IsUnacknowledged log.now command.now.id }
-    ensures { MatchOption result (IsPassed log.now command.now from.now)
+    ensures step { MatchOption result (IsPassed log.now command.now from.now)
         (λ c. (calls : Calls) → IsStep log.now calls slot command.now from.now c) }
+    ensures sound { IfSome result (λ c. IsSoundEffect log.now slot command.now from.now c) }
 {
     let new = after(log, from, slot, line, command, true);
     if is_same_text_at(log, new.text, from.text) {
@@ -111,8 +114,9 @@ fn stepped(
     requires slot { slot < 4096 }
     requires line { submitted_by (slice_get log.now line) ≡ Some command.now }
     requires replies { AreReplyLines log.now replies.now (length log.now) }
-    ensures { MatchOption result (IsBarred log.now command.now from.now)
+    ensures step { MatchOption result (IsBarred log.now command.now from.now)
         (λ c. (calls : Calls) → IsStep log.now calls slot command.now from.now c) }
+    ensures sound { IfSome result (λ c. IsSoundEffect log.now slot command.now from.now c) }
 {
     if is_unacknowledged(log, replies, command) {
         return unanswered_step(log, from, slot, line, command);
@@ -131,7 +135,8 @@ fn with_read(
 ) -> Configuration
     requires slot { slot < length slots.now }
     requires few { length slots.now ≤ 4096 }
-    ensures { (from.now ≡ result) ⊎ IsRead log.now (waiting log.now slots.now) slot from.now result }
+    ensures read { (from.now ≡ result) ⊎ IsRead log.now (waiting log.now slots.now) slot from.now result }
+    ensures sound { (from.now ≡ result) ⊎ IsSoundRead log.now slots.now slot from.now result }
 {
     let Some(line) = slots[slot] else {
         return *from;
@@ -167,41 +172,96 @@ fn with_reads(
     new
 }
 
-// Adds the command that a line submits, and then the reads that only the second configuration has, to the trail of the
-// first one. Returns the number of the last step. Nothing is proved about the trail, because the judge confirms the order.
-fn push_trail(
+// Adds a step to the trail, if there is one. Returns the configuration after it.
+fn with_step(
+    from: &Configuration,
+    step: Option<Step>,
+    trail: &mut Vec<Step>,
+) -> Result<Configuration, NoMemory>
+    ensures trail { OnOk result (trail.new.items ≡ trail_with trail.old.items step) }
+    ensures number { IfOk result (λ c. c ≡ numbered from.now step (length (trail_with trail.old.items step))) }
+{
+    let Some(step) = step else {
+        return Ok(*from);
+    };
+    trail.push(step)?;
+    Ok(Configuration {
+        done: from.done,
+        text: from.text,
+        unseen: from.unseen,
+        trail: trail.len(),
+    })
+}
+
+// Lets a waiting read take effect, if its reply is right for the text of the configuration, and adds it to the trail.
+fn with_read_step(
+    log: &[Observation],
+    replies: &BTreeMap<u64, usize>,
     slots: &[Option<usize>],
     from: &Configuration,
-    line: Option<usize>,
-    to: &Configuration,
+    slot: usize,
     trail: &mut Vec<Step>,
-) -> Result<usize, NoMemory>
-    requires { length slots.now ≤ 4096 }
+) -> Result<Configuration, NoMemory>
+    requires slot { slot < length slots.now }
+    requires few { length slots.now ≤ 4096 }
+    ensures read { IfOk result (λ c. (from.now ≡ c) ⊎ IsRead log.now (waiting log.now slots.now) slot from.now c) }
+    ensures trail_longer { OnOk result (IsLongerTrail trail.old.items trail.new.items) }
+    ensures sound { IfOk result (λ c. (cs : List Configuration) → AreWithin cs trail.old.items
+        → IsReachable log.now slots.now trail.old.items cs from.now
+        → IsReachable log.now slots.now trail.new.items cs c) }
 {
-    let mut before = from.trail;
-    if let Some(line) = line {
-        trail.push(Step { line, before })?;
-        before = trail.len();
+    let read = with_read(log, replies, slots, from, slot);
+    if from.done.has(slot) || !read.done.has(slot) {
+        return Ok(*from);
     }
+    let Some(line) = slots[slot] else {
+        return Ok(*from);
+    };
+    trail.push(Step {
+        line,
+        before: from.trail,
+    })?;
+    Ok(Configuration {
+        done: read.done,
+        text: read.text,
+        unseen: read.unseen,
+        trail: trail.len(),
+    })
+}
+
+// Lets the waiting reads in some slots take effect, as `with_read_step` does.
+fn with_read_steps(
+    log: &[Observation],
+    replies: &BTreeMap<u64, usize>,
+    slots: &[Option<usize>],
+    from: &Configuration,
+    wanted: &SlotSet,
+    trail: &mut Vec<Step>,
+) -> Result<Configuration, NoMemory>
+    requires { length slots.now ≤ 4096 }
+    ensures read { IfOk result (λ c. IsReadOn log.now (waiting log.now slots.now) from.now c) }
+    ensures trail_longer { OnOk result (IsLongerTrail trail.old.items trail.new.items) }
+    ensures sound { IfOk result (λ c. (cs : List Configuration) → AreWithin cs trail.old.items
+        → IsReachable log.now slots.now trail.old.items cs from.now
+        → IsReachable log.now slots.now trail.new.items cs c) }
+{
+    let mut new = *from;
     for slot in 0..slots.len() {
-        if let Some(line) = slots[slot] {
-            if to.done.has(slot) && !from.done.has(slot) {
-                trail.push(Step { line, before })?;
-                before = trail.len();
-            }
+        if wanted.has(slot) {
+            new = with_read_step(log, replies, slots, &new, slot, trail)?;
         }
     }
-    Ok(before)
+    Ok(new)
 }
 
 // Adds a configuration, after the waiting reads that are right for its text, unless a known one stands for it. The
-// configuration was reached by the command that a line submits.
+// configuration was reached by the step, if there is one.
 fn push_new(
     log: &[Observation],
     replies: &BTreeMap<u64, usize>,
     slots: &[Option<usize>],
     new: &Configuration,
-    line: Option<usize>,
+    step: Option<Step>,
     lost: &SlotSet,
     work: &mut Work,
     trail: &mut Vec<Step>,
@@ -210,18 +270,19 @@ fn push_new(
     requires few { length slots.now ≤ 4096 }
     ensures longer { OnOk result (IsLonger work.old.configurations.items work.new.configurations.items) }
     ensures there { OnOk result (HasRead log.now (waiting log.now slots.now) work.new.configurations.items new.now) }
+    ensures trail_longer { OnOk result (IsLongerTrail trail.old.items trail.new.items) }
+    ensures sound { OnOk result ((cs : List Configuration) → AreWithin cs trail.old.items
+        → IsReachable log.now slots.now (trail_with trail.old.items step) cs
+        (numbered new.now step (length (trail_with trail.old.items step)))
+        → AreReachable log.now slots.now trail.old.items cs work.old.configurations.items
+        → AreReachable log.now slots.now trail.new.items cs work.new.configurations.items) }
 {
     let read = with_reads(log, replies, slots, new);
     if work.has_better(log, &read, lost) {
         return Ok(());
     }
-    let last = push_trail(slots, new, line, &read, trail)?;
-    let reached = Configuration {
-        done: read.done,
-        text: read.text,
-        unseen: read.unseen,
-        trail: last,
-    };
+    let from = with_step(new, step, trail)?;
+    let reached = with_read_steps(log, replies, slots, &from, &read.done, trail)?;
     work.push(log, reached, lost)?;
     Ok(())
 }
@@ -243,6 +304,11 @@ fn push_step(
     requires replies { AreReplyLines log.now replies.now (length log.now) }
     ensures longer { OnOk result (IsLonger work.old.configurations.items work.new.configurations.items) }
     ensures follows { OnOk result (FollowsAt log.now slots.now work.new.configurations.items from.now slot) }
+    ensures trail_longer { OnOk result (IsLongerTrail trail.old.items trail.new.items) }
+    ensures sound { OnOk result ((cs : List Configuration) → AreWithin cs trail.old.items
+        → IsReachable log.now slots.now trail.old.items cs from.now
+        → AreReachable log.now slots.now trail.old.items cs work.old.configurations.items
+        → AreReachable log.now slots.now trail.new.items cs work.new.configurations.items) }
 {
     let Some(line) = slots[slot] else {
         return Ok(());
@@ -256,7 +322,11 @@ fn push_step(
     let Some(new) = stepped(log, replies, from, slot, line, command) else {
         return Ok(());
     };
-    push_new(log, replies, slots, &new, Some(line), lost, work, trail)
+    let step = Step {
+        line,
+        before: from.trail,
+    };
+    push_new(log, replies, slots, &new, Some(step), lost, work, trail)
 }
 
 // Adds the configurations after each of the waiting commands.
@@ -275,6 +345,11 @@ fn push_steps(
     requires replies { AreReplyLines log.now replies.now (length log.now) }
     ensures longer { OnOk result (IsLonger work.old.configurations.items work.new.configurations.items) }
     ensures follow { OnOk result (AllFollow log.now slots.now work.new.configurations.items from.now) }
+    ensures trail_longer { OnOk result (IsLongerTrail trail.old.items trail.new.items) }
+    ensures sound { OnOk result ((cs : List Configuration) → AreWithin cs trail.old.items
+        → IsReachable log.now slots.now trail.old.items cs from.now
+        → AreReachable log.now slots.now trail.old.items cs work.old.configurations.items
+        → AreReachable log.now slots.now trail.new.items cs work.new.configurations.items) }
 {
     for slot in 0..slots.len() {
         if !gives_way(log, slots, from, slot, lost, twins) {
@@ -296,8 +371,11 @@ fn begun(
 ) -> Result<Work, NoMemory>
     requires lost { AreLost log.now (waiting log.now slots.now) lost.now }
     requires few { length slots.now ≤ 4096 }
-    ensures { IfOk result (λ work. (c : Configuration) → IsOneOf configurations.now c
+    ensures begins { IfOk result (λ work. (c : Configuration) → IsOneOf configurations.now c
         → HasRead log.now (waiting log.now slots.now) work.configurations.items c) }
+    ensures trail_longer { OnOk result (IsLongerTrail trail.old.items trail.new.items) }
+    ensures sound { IfOk result (λ work. AreWithin configurations.now trail.old.items
+        → AreReachable log.now slots.now trail.new.items configurations.now work.configurations.items) }
 {
     let mut work = Work::new(alloc);
     for configuration in configurations {
@@ -318,7 +396,8 @@ fn begun(
 // Returns the configuration after the reply to the command in a slot.
 fn freed(from: &Configuration, slot: usize) -> Configuration
     requires { slot < 4096 }
-    ensures { (log : List Observation) (calls : Calls) → IsFreed log calls slot from.now result }
+    ensures freed { (log : List Observation) (calls : Calls) → IsFreed log calls slot from.now result }
+    ensures sound { has_slot from.now.done slot ≡ true → IsSoundlyFreed slot from.now result }
 {
     Configuration {
         done: from.done.without(slot),
@@ -340,6 +419,9 @@ fn push_freed(
     ensures longer { OnOk result (IsLonger next.old.configurations.items next.new.configurations.items) }
     ensures there { OnOk result ((calls : Calls) → AreLost log.now calls lost.now
         → (d : Configuration) × IsOneOf next.new.configurations.items d × IsFreed log.now calls slot from.now d) }
+    ensures sound { OnOk result (has_slot from.now.done slot ≡ true → (d : Configuration)
+        → IsOneOf next.new.configurations.items d
+        → IsOneOf next.old.configurations.items d ⊎ IsSoundlyFreed slot from.now d) }
 {
     let new = freed(from, slot);
     if next.has_better(log, &new, lost) {
@@ -356,8 +438,9 @@ fn best_of(
     configurations: &[Configuration],
     lost: &SlotSet,
 ) -> Result<Vec<Configuration>, NoMemory>
-    ensures { IfOk result (λ best. (calls : Calls) → AreLost log.now calls lost.now
+    ensures best { IfOk result (λ best. (calls : Calls) → AreLost log.now calls lost.now
         → (d : Configuration) → IsOneOf configurations.now d → HasLess log.now calls best.items d) }
+    ensures within { IfOk result (λ best. (d : Configuration) → IsOneOf best.items d → IsOneOf configurations.now d) }
 {
     let mut best = Work::new(alloc);
     for count in 0..configurations.len() {
@@ -377,6 +460,8 @@ fn push_better(
     ensures longer { OnOk result (IsLonger best.old.configurations.items best.new.configurations.items) }
     ensures there { OnOk result ((calls : Calls) → AreLost log.now calls lost.now
         → HasLess log.now calls best.new.configurations.items new) }
+    ensures within { OnOk result ((d : Configuration) → IsOneOf best.new.configurations.items d
+        → IsOneOf best.old.configurations.items d ⊎ (d ≡ new)) }
 {
     if best.has_better(log, &new, lost) {
         return Ok(());
@@ -438,7 +523,10 @@ pub fn settled(
     requires slot { slot < 4096 }
     requires few { length slots.now ≤ 4096 }
     requires replies { AreReplyLines log.now replies.now (length log.now) }
-    ensures { IfOk result (λ o. IfSome o (λ next. IsSettled log.now slots.now configurations.now slot next.items)) }
+    ensures settled { IfOk result (λ o. IfSome o (λ next. IsSettled log.now slots.now configurations.now slot next.items)) }
+    ensures trail_longer { OnOk result (IsLongerTrail trail.old.items trail.new.items) }
+    ensures sound { IfOk result (λ o. IfSome o (λ next. AreWithin configurations.now trail.old.items
+        → AreSoundlySettled log.now slots.now trail.new.items configurations.now slot next.items)) }
 {
     let lost = lost_slots(log, replies, slots);
     let twins = twins_of(alloc, log, slots, &lost)?;

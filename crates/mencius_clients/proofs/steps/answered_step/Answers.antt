@@ -1,8 +1,8 @@
 use Rattle.std.proofs.Common.{rules}
 use Rattle.mencius_clients.proofs.steps.answered_step.Goals as goal
 
-pub returns-then-not-is_right_at : goal.returns-then-not-is_right_at
-returns-then-not-is_right_at c = (
+pub returns-then-not-is_right_at-clause-step : goal.returns-then-not-is_right_at-clause-step
+returns-then-not-is_right_at-clause-step c = (
   (c.args.answer.now, c.requires.answer, c.requires.counts),
   (c.args.answer.now, c.requires.answer, search rules),
 )

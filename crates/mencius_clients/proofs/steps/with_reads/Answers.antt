@@ -5,4 +5,4 @@ use Rattle.mencius_clients.proofs.steps.with_reads.Goals as goal
 pub loop-slot-preserved : goal.loop-slot-preserved
 loop-slot-preserved c =
     read_step c.args.log.now (waiting c.args.log.now c.args.slots.now) c.args.from.now c.loop-slot.new c.with_read-new.result
-    c.loop-slot.slot c.loop-slot.invariant c.with_read-new.ensures
+    c.loop-slot.slot c.loop-slot.invariant c.with_read-new.ensures.read

@@ -1,4 +1,7 @@
-use Rattle.std.proofs.Common.{◌≡◌, ◌≢◌, reverse, ◌<◌, ℕ, List, Some, ap, arith, sym, subst, false, ◌∙◌}
+use Rattle.mencius_judge.specs.Log.{acknowledged, has_id}
+use Rattle.mencius_clients.specs.OrdersSoFar.{IsSoundlyAnswered}
+use Rattle.mencius_clients.proofs.SearchFound.{search_passes, search_replies}
+use Rattle.std.proofs.Common.{[], ◌∷◌, ◌++◌, ◌||◌, cond, refl, ◌≡◌, ◌≢◌, reverse, ◌<◌, ℕ, List, Some, ap, arith, sym, subst, false, ◌∙◌}
 use Rattle.std.specs.BTreeMap.{get_by_text}
 use Rattle.std.specs.List.{Contains}
 use Rattle.std.proofs.lemmas.List.{reverse-reverse}
@@ -13,19 +16,19 @@ use Rattle.mencius_clients.proofs.Later.{contains_reverse}
 use Rattle.mencius_clients.proofs.Searching.{failed_passes, passed_over, replied, unknown}
 use Rattle.mencius_clients.proofs.search.Search.reply.Goals as goal
 
-pub returns-then-is_failed : goal.returns-then-is_failed
-returns-then-is_failed c u later whole h =
+pub returns-then-is_failed-clause-after : goal.returns-then-is_failed-clause-after
+returns-then-is_failed-clause-after c u later whole h =
     passed_over _ u c.args.log.now c.args.self.now (Reply c.args.id c.args.answer.now)
     (failed_passes c.args.id c.args.answer.now (sym c.is_failed.ensures ∙ c.if-is_failed.true)) h
 
-pub returns-in_default : goal.returns-in_default
-returns-in_default c u later whole h =
+pub returns-in_default-clause-after : goal.returns-in_default-clause-after
+returns-in_default-clause-after c u later whole h =
     let small : c.args.id.number < number_count = omega arith in
     unknown _ u later c.args.id c.args.answer.now (sym c.is_failed.ensures ∙ c.if-is_failed.false) whole
     (sym (h.calls c.args.id small) ∙ c.in_default.ensures)
 
-pub returns : goal.returns
-returns c u later whole h =
+pub returns-clause-after : goal.returns-clause-after
+returns-clause-after c u later whole h =
     let s = c.args.self.now in
     let t = c.reply_key.new.self in
     let log = c.args.log.now in
@@ -41,3 +44,28 @@ returns c u later whole h =
     (subst (λ k. IsAnswered log c.args.id (slots_of (get_by_text s.by_key k)) (configurations_of (get_by_text s.by_key k))
     (slots_of (get_by_text t.by_key k)) (configurations_of (get_by_text t.by_key k)) c.in_ok-outcome.outcome) key more.own)
     (subst (λ k. (y : List ℕ) → y ≢ k → get_by_text t.by_key y ≡ get_by_text s.by_key y) key more.others) h
+
+pub returns-then-is_failed-clause-found : goal.returns-then-is_failed-clause-found
+returns-then-is_failed-clause-found c u later whole one s h goes =
+    search_passes c.args.log.now u (Reply c.args.id c.args.answer.now) c.args.self.now c.args.self.now (λ key. refl)
+    (λ n step e. e)
+    (λ id acked. ap (λ d. has_id (cond (d || has_id (acknowledged u) c.args.id) (acknowledged u) (acknowledged u ++ c.args.id ∷ [])) id)
+    (sym (sym c.is_failed.ensures ∙ c.if-is_failed.true)) ∙ acked) h
+
+pub returns-clause-found : goal.returns-clause-found
+returns-clause-found c u later whole one s h goes =
+    let log = c.args.log.now in
+    let old = c.args.self.now in
+    let new = c.reply_key.new.self in
+    let x : Command = c.in-Some.command.now in
+    let small : c.args.id.number < number_count = omega arith in
+    let is : command_of u c.args.id ≡ Some x = sym (s.calls c.args.id small) ∙ c.in-Some.ensures in
+    let key : c.key_of.result.now ≡ key_of x.op = c.key_of.ensures ∙ ap key_of c.op.ensures.op in
+    let counts : is_failed c.args.answer.now ≡ false = sym c.is_failed.ensures ∙ c.if-is_failed.false in
+    let more = c.in_ok-outcome.ensures in
+    search_replies log u later c.args.id c.args.answer.now old new x one counts whole is (λ k. (s.keys k).waits)
+    more.trail_longer
+    (subst (λ k. IsSoundlyAnswered log c.args.id (slots_of (get_by_text old.by_key k))
+    (configurations_of (get_by_text old.by_key k)) (slots_of (get_by_text new.by_key k))
+    (configurations_of (get_by_text new.by_key k)) old.trail.items new.trail.items) key (more.sound goes))
+    (subst (λ k. (y : List ℕ) → y ≢ k → get_by_text new.by_key y ≡ get_by_text old.by_key y) key more.others) h

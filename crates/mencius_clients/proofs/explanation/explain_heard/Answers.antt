@@ -1,0 +1,12 @@
+use Rattle.std.proofs.Common.{[], reverse, subst, sym}
+use Rattle.mencius_clients.proofs.SearchFound.{one_reply_heard}
+use Rattle.mencius_clients.proofs.OrdersFound.{all_found}
+use Rattle.mencius_clients.proofs.explanation.explain_heard.Goals as goal
+
+pub returns : goal.returns
+returns c heard =
+    let log = c.args.log.now in
+    let first = c.new-search.ensures.searched (reverse log) log in
+    let s = c.in_ok-explanation.ensures.searched c.in_default.is first in
+    c.in_ok-order.ensures (all_found log c.search_all.new.search s.submitted
+    (c.in_ok-explanation.ensures.orders c.in_default.is first (one_reply_heard c.args.judge log heard) (c.new-search.ensures.found log)))
