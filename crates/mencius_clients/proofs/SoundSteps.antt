@@ -261,6 +261,10 @@ SoSettled log slots cs slot old trail work next =
     IsLongerTrail old trail
     × (AreWithin cs old → AreReachable log slots trail cs work × AreSoundlySettled log slots trail cs slot next)
 
+pub first_one : (cs : List Configuration) → (length cs == 0) ≡ false → (c : Configuration) × IsOneOf cs c
+first_one [] e = absurd (cc)
+first_one (c ∷ cs) e = (c, (0, refl))
+
 pub none_one : (cs : List Configuration) (d : Configuration) → cs ≡ [] → IsOneOf cs d → {P : Type 0} → P
 none_one cs d none one =
     let e : slice_get [] one.0 ≡ Some d = sym (ap (λ xs. slice_get xs one.0) none) ∙ one.1 in absurd (cc)
