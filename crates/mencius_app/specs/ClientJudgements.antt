@@ -5,7 +5,7 @@ use Rattle.mencius_io.specs.declared.fault.IoFault.{IoFault}
 use Rattle.mencius_io.specs.declared.fault.IoFault.TheVariants.{BadLimit}
 use Rattle.mencius_log.specs.BadLines.{ExplainsLine}
 use Rattle.mencius_clients.specs.declared.client_verdict.ClientVerdict.{ClientVerdict}
-use Rattle.mencius_clients.specs.declared.client_verdict.ClientVerdict.TheVariants.{Linearizable, Unjudged, NotLinearizable, Broken, Undecided, Unconfirmed}
+use Rattle.mencius_clients.specs.declared.client_verdict.ClientVerdict.TheVariants.{Linearizable, Unjudged, NotLinearizable, Broken, Undecided}
 use Rattle.mencius_clients.specs.ClientJson.{client_json}
 use Rattle.mencius_clients.specs.ClientLines.{client_explanation, client_verdict_line, order_lines}
 use Rattle.mencius_clients.specs.ClientVerdicts.{IsVerdictFor}
@@ -20,7 +20,6 @@ order_text (Unjudged counts) = []
 order_text (NotLinearizable number key quotes fitting) = []
 order_text (Broken number violation) = []
 order_text (Undecided number key cause) = []
-order_text Unconfirmed = []
 
 -- the text that follows the line of a verdict: the lines that explain it, unless it is to be brief, and the order if it
 -- was requested
@@ -40,7 +39,6 @@ is_linearizable (Unjudged counts) = false
 is_linearizable (NotLinearizable number key quotes fitting) = false
 is_linearizable (Broken number violation) = false
 is_linearizable (Undecided number key cause) = false
-is_linearizable Unconfirmed = false
 
 -- the text reports a verdict on some bytes, and `kept` says whether the verdict is that they are linearizable. If the
 -- reader's bytes are known, they are these bytes

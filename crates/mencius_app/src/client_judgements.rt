@@ -106,8 +106,7 @@ fn push_order_of(text: &mut String, verdict: &ClientVerdict) -> Result<(), Alloc
         ClientVerdict::Unjudged { .. }
         | ClientVerdict::NotLinearizable { .. }
         | ClientVerdict::Broken { .. }
-        | ClientVerdict::Undecided { .. }
-        | ClientVerdict::Unconfirmed => Ok(()),
+        | ClientVerdict::Undecided { .. } => Ok(()),
     }
 }
 
@@ -119,7 +118,6 @@ fn is_linearizable(verdict: &ClientVerdict) -> bool
         ClientVerdict::Unjudged { .. }
         | ClientVerdict::NotLinearizable { .. }
         | ClientVerdict::Broken { .. }
-        | ClientVerdict::Undecided { .. }
-        | ClientVerdict::Unconfirmed => false,
+        | ClientVerdict::Undecided { .. } => false,
     }
 }

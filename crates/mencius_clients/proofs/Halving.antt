@@ -6,7 +6,7 @@ use Rattle.mencius_log.specs.declared.observation.Observation.{Observation}
 use Rattle.mencius_judge.specs.declared.violation.Violation.{Violation}
 use Rattle.mencius_judge.specs.Log.{Log}
 use Rattle.mencius_clients.specs.declared.explanation.Cause.{Cause}
-use Rattle.mencius_clients.specs.declared.explanation.Cause.TheVariants.{Waiting, Configurations, Unconfirmed}
+use Rattle.mencius_clients.specs.declared.explanation.Cause.TheVariants.{Waiting, Configurations}
 use Rattle.mencius_clients.specs.declared.explanation.Explanation.{Explanation}
 use Rattle.mencius_clients.specs.declared.explanation.Explanation.TheVariants.{Broken, Undecided}
 use Rattle.mencius_clients.specs.Explained.{IsBroken, IsCause, IsExplanation, IsLinearizable, IsSplitAt}
@@ -108,7 +108,6 @@ cause_whole log count (Waiting line) h = record {
   many = h.many;
 }
 cause_whole log count (Configurations line) h = (h.0, h.1, still_there log count line _ h.2, h.3)
-cause_whole log count Unconfirmed h = h
 
 pub broken_of : (log : List Observation) (count : ℕ) (e : Explanation) (line : ℕ) (v : Violation) → e ≡ Broken line v
     → IsExplanation (take count log) e → IsBroken log line v

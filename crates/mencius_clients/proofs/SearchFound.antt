@@ -71,9 +71,9 @@ pub search_replies : (log : List Observation) (u later : Log) (id : CommandId) (
     → ((key : List ℕ) → AreWaiting log u key (waiting log (slots_of (get_by_text s.by_key key))))
     → IsLongerTrail s.trail.items n.trail.items
     → IsSoundlyAnswered log id (slots_of (get_by_text s.by_key (key_of command.op)))
-        (configurations_of (get_by_text s.by_key (key_of command.op)))
-        (slots_of (get_by_text n.by_key (key_of command.op)))
-        (configurations_of (get_by_text n.by_key (key_of command.op))) s.trail.items n.trail.items
+    (configurations_of (get_by_text s.by_key (key_of command.op)))
+    (slots_of (get_by_text n.by_key (key_of command.op)))
+    (configurations_of (get_by_text n.by_key (key_of command.op))) s.trail.items n.trail.items
     → ((k : List ℕ) → k ≢ key_of command.op → get_by_text n.by_key k ≡ get_by_text s.by_key k)
     → HasFound log u s → HasFound log (Reply id x ∷ u) n
 search_replies log u later id x s n command one_reply counts whole is waits longer answered others h key =

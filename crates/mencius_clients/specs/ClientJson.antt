@@ -8,7 +8,7 @@ use Rattle.mencius_judge.specs.declared.quote.Quote.{Quote}
 use Rattle.mencius_verdict.specs.VerdictJson.{breach_json, lines_field, number_field, text_field, verdict_field}
 use Rattle.mencius_clients.specs.declared.client_counts.ClientCounts.{ClientCounts}
 use Rattle.mencius_clients.specs.declared.client_verdict.ClientVerdict.{ClientVerdict}
-use Rattle.mencius_clients.specs.declared.client_verdict.ClientVerdict.TheVariants.{Linearizable, Unjudged, NotLinearizable, Broken, Undecided, Unconfirmed}
+use Rattle.mencius_clients.specs.declared.client_verdict.ClientVerdict.TheVariants.{Linearizable, Unjudged, NotLinearizable, Broken, Undecided}
 use Rattle.mencius_clients.specs.declared.client_verdict.GiveUp.{GiveUp}
 use Rattle.mencius_clients.specs.declared.client_verdict.GiveUp.TheVariants.{Waiting, Configurations}
 use Rattle.mencius_clients.specs.ClientLines.{said_text}
@@ -76,4 +76,3 @@ client_json with_order (NotLinearizable number key quotes fitting) =
     without_json number (string_bytes key) quotes.items fitting.items
 client_json with_order (Broken number violation) = breach_json number violation []
 client_json with_order (Undecided number key cause) = undecided_json number (string_bytes key) cause
-client_json with_order Unconfirmed = verdict_field (codes "undecided") ++ codes "}\n"

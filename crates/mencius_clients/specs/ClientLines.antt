@@ -8,7 +8,7 @@ use Rattle.mencius_verdict.specs.VerdictLines.{broken_line, quote_lines}
 use Rattle.mencius_clients.specs.declared.client_lines.TheConstants.{FITTING_SENTENCE}
 use Rattle.mencius_clients.specs.declared.client_counts.ClientCounts.{ClientCounts}
 use Rattle.mencius_clients.specs.declared.client_verdict.ClientVerdict.{ClientVerdict}
-use Rattle.mencius_clients.specs.declared.client_verdict.ClientVerdict.TheVariants.{Linearizable, Unjudged, NotLinearizable, Broken, Undecided, Unconfirmed}
+use Rattle.mencius_clients.specs.declared.client_verdict.ClientVerdict.TheVariants.{Linearizable, Unjudged, NotLinearizable, Broken, Undecided}
 use Rattle.mencius_clients.specs.declared.client_verdict.GiveUp.{GiveUp}
 use Rattle.mencius_clients.specs.declared.client_verdict.GiveUp.TheVariants.{Waiting, Configurations}
 
@@ -42,7 +42,6 @@ client_verdict_line (Unjudged counts) = counted_line (codes "unjudged") counts
 client_verdict_line (NotLinearizable number key quotes fitting) = without_line number (string_bytes key)
 client_verdict_line (Broken number violation) = broken_line number violation
 client_verdict_line (Undecided number key cause) = undecided_line number (string_bytes key) cause
-client_verdict_line Unconfirmed = codes "undecided order\n"
 
 -- the sentences that say why a log has no linearization
 abbrev pub fitting_sentence : List ℕ
@@ -71,7 +70,6 @@ client_explanation (NotLinearizable number key quotes fitting) =
     quote_lines quotes.items ++ (said_text fitting.items ++ 10 ∷ [])
 client_explanation (Broken number violation) = []
 client_explanation (Undecided number key cause) = []
-client_explanation Unconfirmed = []
 
 -- the line of a log that says that a server executed the command
 abbrev pub execution_line : CommandId → List ℕ

@@ -18,7 +18,7 @@ use Rattle.mencius_judge.specs.Quotes.{NumberedLog, log_of}
 use Rattle.mencius_clients.specs.declared.client_counts.ClientCounts.{ClientCounts}
 use Rattle.mencius_clients.specs.declared.client_verdict.ClientJudgement.{ClientJudgement}
 use Rattle.mencius_clients.specs.declared.client_verdict.ClientVerdict.{ClientVerdict}
-use Rattle.mencius_clients.specs.declared.client_verdict.ClientVerdict.TheVariants.{Linearizable, Unjudged, NotLinearizable, Broken, Undecided, Unconfirmed}
+use Rattle.mencius_clients.specs.declared.client_verdict.ClientVerdict.TheVariants.{Linearizable, Unjudged, NotLinearizable, Broken, Undecided}
 use Rattle.mencius_clients.specs.declared.client_verdict.GiveUp.{GiveUp}
 use Rattle.mencius_clients.specs.declared.client_verdict.GiveUp.TheVariants.{Waiting, Configurations}
 use Rattle.mencius_clients.specs.ClientCounts.{AreClientCounts}
@@ -139,7 +139,6 @@ IsVerdictFor bytes most (NotLinearizable number key quotes fitting) =
     IsFirstWithout bytes number (string_bytes key) quotes.items fitting.items
 IsVerdictFor bytes most (Broken number violation) = IsBrokenAt bytes number violation
 IsVerdictFor bytes most (Undecided number key cause) = IsUndecidedAt bytes most number (string_bytes key) cause
-IsVerdictFor bytes most Unconfirmed = Unit {0}
 
 -- the log and the verdict are right for some bytes. If all bytes of the source are known, they are these bytes
 abbrev pub IsClientJudgement : Option (List ℕ) → ℕ → ClientJudgement → Type 0

@@ -13,11 +13,11 @@ use Rattle.mencius_judge.specs.Linearization.{IsLinearization}
 use Rattle.mencius_judge.specs.Log.{Log, acknowledged, command_of, has_id, is_failed}
 use Rattle.mencius_judge.specs.Quotes.{NumberedLog, log_of}
 use Rattle.mencius_clients.specs.declared.explanation.Cause.{Cause}
-use Rattle.mencius_clients.specs.declared.explanation.Cause.TheVariants.{Waiting, Configurations, Unconfirmed}
+use Rattle.mencius_clients.specs.declared.explanation.Cause.TheVariants.{Waiting, Configurations}
 use Rattle.mencius_clients.specs.declared.explanation.Explanation.{Explanation}
 use Rattle.mencius_clients.specs.declared.explanation.Explanation.TheVariants.{Explained, Unexplained, Broken, Undecided}
-use Rattle.mencius_clients.specs.declared.second_judge.Heard.{Heard}
-use Rattle.mencius_clients.specs.declared.second_judge.Heard.TheVariants as hearing
+use Rattle.mencius_clients.specs.declared.heard.Heard.{Heard}
+use Rattle.mencius_clients.specs.declared.heard.Heard.TheVariants as hearing
 use Rattle.mencius_clients.specs.declared.outcome.Outcome.{Outcome}
 use Rattle.mencius_clients.specs.declared.outcome.Outcome.TheVariants.{Goes}
 use Rattle.mencius_clients.specs.declared.outcome.Outcome.TheVariants as outcome
@@ -102,7 +102,6 @@ IsHeard log (hearing.Broken fault) = IsBroken log fault.line fault.violation
 abbrev pub IsCause : List Observation → Cause → Type 0
 IsCause log (Waiting line) = IsManyAt log line
 IsCause log (Configurations line) = IsReplyAt log line
-IsCause log Unconfirmed = Unit {0}
 
 -- the verdict of a search with this outcome at this line. A search that goes on has none
 abbrev pub IsEnd : Outcome → ℕ → Option Explanation → Type 0

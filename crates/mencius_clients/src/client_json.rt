@@ -53,10 +53,6 @@ pub fn push_client_json(
         ClientVerdict::Undecided { number, key, cause } => {
             push_undecided(text, *number, key.as_str(), *cause)
         }
-        ClientVerdict::Unconfirmed => {
-            push_verdict_field(text, "undecided")?;
-            text.push_str("}\n")
-        }
     }
 }
 

@@ -16,9 +16,9 @@ use crate::client_verdict::{ClientJudgement, ClientVerdict, GiveUp};
 use crate::explanation::{Cause, Explanation, explain_heard};
 use crate::first_lines::{FirstLine, first_line};
 use crate::fitting_answers::fitting_answers;
+use crate::heard::{Heard, hear};
 use crate::key_lines::key_lines;
 use crate::line_keys::key_at;
-use crate::second_judge::{Heard, hear};
 use mencius_base::NoMemory;
 use mencius_io::{Failure, Source};
 use mencius_judge::{Judge, Violation};
@@ -77,7 +77,7 @@ fn judge_heard(
     if counts.replies == 0 {
         return Ok(ClientVerdict::Unjudged { counts });
     }
-    match explain_heard(alloc, judge, lines, most)? {
+    match explain_heard(alloc, &judge, lines, most)? {
         Explanation::Explained { order } => Ok(ClientVerdict::Linearizable { counts, order }),
         Explanation::Unexplained { line } => judge_unexplained(alloc, log, most, line),
         Explanation::Broken { line, violation } => Ok(broken(log, line, violation)),
@@ -171,7 +171,6 @@ fn undecided(
             line,
             GiveUp::Configurations { most },
         ),
-        Cause::Unconfirmed => Ok(ClientVerdict::Unconfirmed),
     }
 }
 

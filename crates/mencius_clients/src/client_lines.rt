@@ -33,7 +33,6 @@ pub fn push_client_verdict(text: &mut String, verdict: &ClientVerdict) -> Result
             key.as_str(),
             *cause,
         ),
-        ClientVerdict::Unconfirmed => text.push_str("undecided order\n"),
     }
 }
 
@@ -56,8 +55,7 @@ pub fn push_client_explanation(text: &mut String, verdict: &ClientVerdict) -> Re
         ClientVerdict::Linearizable { .. }
         | ClientVerdict::Unjudged { .. }
         | ClientVerdict::Broken { .. }
-        | ClientVerdict::Undecided { .. }
-        | ClientVerdict::Unconfirmed => Ok(()),
+        | ClientVerdict::Undecided { .. } => Ok(()),
     }
 }
 

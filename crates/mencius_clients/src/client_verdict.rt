@@ -48,8 +48,6 @@ pub enum ClientVerdict {
         key: String,
         cause: GiveUp,
     },
-    /// The judge did not confirm the order that the search found. This is not known to happen.
-    Unconfirmed,
 }
 
 /// A log that clients saw, and the verdict on it.

@@ -8,10 +8,10 @@ ghost use Rattle.mencius_clients.specs.OrdersSoFar.{HasFound};
 ghost use Rattle.mencius_judge.specs.Promises.{AreOneReply};
 
 use crate::answers::reply_lines;
+use crate::heard::{Heard, hear};
 use crate::orders::merged_order;
 use crate::outcome::Outcome;
 use crate::search::Search;
-use crate::second_judge::{Heard, hear};
 use mencius_base::{CommandId, NoMemory};
 use mencius_judge::{Judge, Violation};
 use mencius_log::Observation;
@@ -25,8 +25,6 @@ pub enum Cause {
     Waiting { line: usize },
     /// The reply at this line makes as many configurations of its key as the limit allows, or more.
     Configurations { line: usize },
-    /// The judge did not confirm the order that the search found.
-    Unconfirmed,
 }
 
 /// The verdict on the submissions and replies of a log. Lines count from 0.
@@ -54,25 +52,25 @@ pub fn explain(alloc: Global, log: &[Observation], limit: usize) -> Result<Expla
             line: fault.line,
             violation: fault.violation,
         }),
-        Heard::Kept { judge } => explain_heard(alloc, judge, log, limit),
+        Heard::Kept { judge } => explain_heard(alloc, &judge, log, limit),
     }
 }
 
-/// Searches for such an order, if the judge has seen the submissions and replies of the log.
+/// Searches for such an order, if the judge has seen the submissions and replies of the log. So no two replies to a command
+/// differ.
 pub fn explain_heard(
     alloc: Global,
-    judge: Judge,
+    _judge: &Judge, // proof: it has seen the submissions and replies
     log: &[Observation],
     limit: usize,
 ) -> Result<Explanation, NoMemory>
-    ensures { IfOk result (λ found. HasHeard judge (heard (reverse log.now)) → IsExplanation log.now found) }
+    ensures { IfOk result (λ found. HasHeard _judge.now (heard (reverse log.now)) → IsExplanation log.now found) }
 {
     let replies = reply_lines(alloc, log)?;
     let mut search = Search::new(alloc);
     if let Some(explanation) = search_all(log, &replies, limit, &mut search)? {
         return Ok(explanation);
     }
-    let _seen = judge;
     let order = merged_order(alloc, log, &search)?;
     Ok(Explanation::Explained { order })
 }

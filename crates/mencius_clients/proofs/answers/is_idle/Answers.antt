@@ -21,8 +21,12 @@ returns-in-None-clause-idle c e =
 
 pub returns-in-Some-clause-other : goal.returns-in-Some-clause-other
 returns-in-Some-clause-other c e none x there =
-    none (c.in-Some.answer.now, subst (λ (id : CommandId). Contains c.args.log.now (Reply id c.in-Some.answer.now)) c.id.ensures
-    c.in-Some.ensures.there, sym c.is_failed.ensures ∙ e)
+    none (
+      c.in-Some.answer.now,
+      subst (λ (id : CommandId). Contains c.args.log.now (Reply id c.in-Some.answer.now)) c.id.ensures
+          c.in-Some.ensures.there,
+      sym c.is_failed.ensures ∙ e,
+    )
 
 pub returns-in-None-clause-other : goal.returns-in-None-clause-other
 returns-in-None-clause-other c e none x there =

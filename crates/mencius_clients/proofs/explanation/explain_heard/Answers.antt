@@ -9,4 +9,4 @@ returns c heard =
     let first = c.new-search.ensures.searched (reverse log) log in
     let s = c.in_ok-explanation.ensures.searched c.in_default.is first in
     c.in_ok-order.ensures (all_found log c.search_all.new.search s.submitted
-    (c.in_ok-explanation.ensures.orders c.in_default.is first (one_reply_heard c.args.judge log heard) (c.new-search.ensures.found log)))
+    (c.in_ok-explanation.ensures.orders c.in_default.is first (one_reply_heard c.args._judge.now log heard) (c.new-search.ensures.found log)))

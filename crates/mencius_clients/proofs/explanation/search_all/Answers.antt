@@ -26,8 +26,7 @@ loop-line-preserved c =
     let u : Log = reverse (take line log) in
     let at : slice_get log line ≡ Some c.index-log-line.result =
     get_at log line c.index-log-line.result c.loop-line-test.true c.index-log-line.is in
-    let whole = whole_at log line c.index-log-line.result at in
-    (
+    let whole = whole_at log line c.index-log-line.result at in (
       λ first. subst (λ v. HasSearched (reverse log) v log c.take.new.self) (sym (part_more log line c.index-log-line.result at))
           (went_on (reverse log) _ log c.take.new.self c.in_ok-outcome.outcome line c.ended.result c.ended.ensures
           c.in_default.is

@@ -9,7 +9,7 @@ use Rattle.mencius_clients.proofs.steps.begun.Goals as goal
 pub loop-configuration-init : goal.loop-configuration-init
 loop-configuration-init c = (
   read_none c.args.log.now (waiting c.args.log.now c.args.slots.now) c.args.configurations.now
-  c.new-work.result.configurations.items,
+      c.new-work.result.configurations.items,
   (
     trail_same c.args.trail.now.items,
     λ within d one. none_one c.new-work.result.configurations.items d c.new-work.ensures one,
@@ -29,7 +29,7 @@ loop-configuration-preserved c =
     let e = c.in_ok-push_new.ensures in
     let at : slice_get cs place ≡ Some (get_or cs place none) = slice_get-get_or cs place none c.loop-configuration-test.true in (
       read_more log (waiting log slots) cs c.loop-configuration.work.configurations.items
-      c.push_new.new.work.configurations.items (get_or cs place none) place h.0 at e.longer e.there,
+          c.push_new.new.work.configurations.items (get_or cs place none) place h.0 at e.longer e.there,
       (
         trail_more old trail c.push_new.new.trail.items h.1.0 e.trail_longer,
         λ within. e.sound cs (within_later old trail cs h.1.0 within)

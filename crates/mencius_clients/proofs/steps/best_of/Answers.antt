@@ -20,8 +20,8 @@ loop-count-preserved c =
     let at : slice_get cs place ≡ Some (get_or cs place none) = slice_get-get_or cs place none (omega (arith, some)) in
     let e = c.in_ok-push_better.ensures in (
       best_more c.args.log.now c.args.lost.now cs c.loop-count.best.configurations.items
-      c.push_better.new.best.configurations.items (get_or cs place none) c.loop-count.count
-      c.loop-count.invariant.0 some at e.longer e.there,
+          c.push_better.new.best.configurations.items (get_or cs place none) c.loop-count.count
+          c.loop-count.invariant.0 some at e.longer e.there,
       λ d one. elim (e.within d one) [
         | inl before ↦ c.loop-count.invariant.1 d before
         | inr same ↦ (place, at ∙ ap Some (sym same))

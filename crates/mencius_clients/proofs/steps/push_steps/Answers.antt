@@ -25,26 +25,25 @@ loop-slot-preserved c =
           let e = w.in_ok-push_step.ensures in
           let new = w.push_step.new.work.configurations.items in
           let more = w.push_step.new.trail.items in
-          let next : SoStepped log slots from old more first new =
-          (
+          let next : SoStepped log slots from old more first new = (
             trail_more old trail more s.0 e.trail_longer,
             λ cs within r all. e.sound cs (within_later old trail cs s.0 within) (reachable_later log slots old trail cs from s.0 r)
                 (s.1 cs within r all),
           ) in (
             subst (λ (v : Work). HaveFollowed log slots first v.configurations.items from (slot + 1)) (sym w.work-is)
-            (followed_more log slots first work new from slot h e.longer e.follows),
+                (followed_more log slots first work new from slot h e.longer e.follows),
             subst (λ (v : Work). SoStepped log slots from old c.if-not-gives_way.trail.items first v.configurations.items)
-            (sym w.work-is)
-            (subst (λ (v : Vec Step Global). SoStepped log slots from old v.items first new) (sym w.trail-is) next),
+                (sym w.work-is)
+                (subst (λ (v : Vec Step Global). SoStepped log slots from old v.items first new) (sym w.trail-is) next),
           )
       | else-not-gives_way w ↦
           let way : GivesWay log slots c.args.lost.now from slot = c.gives_way.ensures w.if-not-gives_way.false in (
             subst (λ (v : Work). HaveFollowed log slots first v.configurations.items from (slot + 1)) (sym w.work-is)
-            (followed_more log slots first work work from slot h (λ n d e. e)
-            (given_way log slots work from slot c.args.lost.now c.requires.lost way (h.each way.twin way.lower))),
+                (followed_more log slots first work work from slot h (λ n d e. e)
+                (given_way log slots work from slot c.args.lost.now c.requires.lost way (h.each way.twin way.lower))),
             subst (λ (v : Work). SoStepped log slots from old c.if-not-gives_way.trail.items first v.configurations.items)
-            (sym w.work-is)
-            (subst (λ (v : Vec Step Global). SoStepped log slots from old v.items first work) (sym w.trail-is) s),
+                (sym w.work-is)
+                (subst (λ (v : Vec Step Global). SoStepped log slots from old v.items first work) (sym w.trail-is) s),
           )
     ]
 

@@ -14,7 +14,7 @@ loop-place-init c =
     let log = c.args.log.now in
     let work = c.in_ok-work.work.configurations.items in (
       subst (λ next. AreSettled log c.args.slots.now c.args.configurations.now c.args.slot 0 work next) (sym c.new-next.ensures)
-      (settled_none log c.args.slots.now c.args.configurations.now work c.args.slot c.in_ok-work.ensures.begins),
+          (settled_none log c.args.slots.now c.args.configurations.now work c.args.slot c.in_ok-work.ensures.begins),
       (
         c.in_ok-work.ensures.trail_longer,
         λ within. (
@@ -67,8 +67,7 @@ loop-place-preserved c =
           let more : AreSettled log slots cs slot (place + 1) work new =
           settled_freed log slots cs work next new slot place c.in-Some.from h at took e.longer
           (e.there (waiting log slots) c.lost_slots-lost.ensures) in
-          let sound : SoSettled log slots cs slot old trail work new =
-          (
+          let sound : SoSettled log slots cs slot old trail work new = (
             s.0,
             λ within. (
               (s.1 within).0,
@@ -77,13 +76,13 @@ loop-place-preserved c =
             ),
           ) in (
             subst (λ (v : Work). AreSettled log slots cs slot (place + 1) v.configurations.items c.if-has.next.configurations.items)
-            (sym w.work-is)
-            (subst (λ (v : Work). AreSettled log slots cs slot (place + 1) work v.configurations.items) (sym w.next-is) more),
+                (sym w.work-is)
+                (subst (λ (v : Work). AreSettled log slots cs slot (place + 1) work v.configurations.items) (sym w.next-is) more),
             subst (λ (v : Vec Step Global). SoSettled log slots cs slot old v.items c.if-has.work.configurations.items
-            c.if-has.next.configurations.items) (sym w.trail-is)
-            (subst (λ (v : Work). SoSettled log slots cs slot old trail v.configurations.items c.if-has.next.configurations.items)
-            (sym w.work-is)
-            (subst (λ (v : Work). SoSettled log slots cs slot old trail work v.configurations.items) (sym w.next-is) sound)),
+                c.if-has.next.configurations.items) (sym w.trail-is)
+                (subst (λ (v : Work). SoSettled log slots cs slot old trail v.configurations.items c.if-has.next.configurations.items)
+                (sym w.work-is)
+                (subst (λ (v : Work). SoSettled log slots cs slot old trail work v.configurations.items) (sym w.next-is) sound)),
           )
       | else-has+in_ok-push_steps w ↦
           let e = w.in_ok-push_steps.ensures in
@@ -92,8 +91,7 @@ loop-place-preserved c =
           let more : AreSettled log slots cs slot (place + 1) new next =
           settled_longer log slots cs work new next slot place c.in-Some.from h at (sym c.has.ensures ∙ w.if-has.false)
           e.longer e.follow in
-          let sound : SoSettled log slots cs slot old longer new next =
-          (
+          let sound : SoSettled log slots cs slot old longer new next = (
             trail_more old trail longer s.0 e.trail_longer,
             λ within. (
               e.sound cs (within_later old trail cs s.0 within) ((s.1 within).0 c.in-Some.from (place, at)) (s.1 within).0,
@@ -101,12 +99,12 @@ loop-place-preserved c =
             ),
           ) in (
             subst (λ (v : Work). AreSettled log slots cs slot (place + 1) v.configurations.items c.if-has.next.configurations.items)
-            (sym w.work-is)
-            (subst (λ (v : Work). AreSettled log slots cs slot (place + 1) new v.configurations.items) (sym w.next-is) more),
+                (sym w.work-is)
+                (subst (λ (v : Work). AreSettled log slots cs slot (place + 1) new v.configurations.items) (sym w.next-is) more),
             subst (λ (v : Vec Step Global). SoSettled log slots cs slot old v.items c.if-has.work.configurations.items
-            c.if-has.next.configurations.items) (sym w.trail-is)
-            (subst (λ (v : Work). SoSettled log slots cs slot old longer v.configurations.items c.if-has.next.configurations.items)
-            (sym w.work-is)
-            (subst (λ (v : Work). SoSettled log slots cs slot old longer new v.configurations.items) (sym w.next-is) sound)),
+                c.if-has.next.configurations.items) (sym w.trail-is)
+                (subst (λ (v : Work). SoSettled log slots cs slot old longer v.configurations.items c.if-has.next.configurations.items)
+                (sym w.work-is)
+                (subst (λ (v : Work). SoSettled log slots cs slot old longer new v.configurations.items) (sym w.next-is) sound)),
           )
     ]

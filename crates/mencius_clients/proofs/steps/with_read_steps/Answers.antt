@@ -19,8 +19,7 @@ loop-slot-preserved c =
       | then-has+in_ok-new w ↦
           let e = w.in_ok-new.ensures in
           let more = w.with_read_step.new.trail.items in
-          let next : SoRead log slots from old more w.in_ok-new.new =
-          (
+          let next : SoRead log slots from old more w.in_ok-new.new = (
             read_step log (waiting log slots) from c.loop-slot.new w.in_ok-new.new c.loop-slot.slot h.0 e.read,
             trail_more old trail more h.1 e.trail_longer,
             λ cs within r. e.sound cs (within_later old trail cs h.1 within) (h.2 cs within r),

@@ -5,7 +5,7 @@ use Rattle.mencius_judge.specs.Judged.{Breaks}
 use Rattle.mencius_judge.specs.Log.{Log}
 use Rattle.mencius_clients.specs.Explained.{HasHeard, heard}
 use Rattle.mencius_clients.proofs.Explaining.{broken_at, get_at, none_found, part_more, some_found}
-use Rattle.mencius_clients.proofs.second_judge.observe_lines.Goals as goal
+use Rattle.mencius_clients.proofs.heard.observe_lines.Goals as goal
 
 pub loop-line-preserved : goal.loop-line-preserved
 loop-line-preserved c first =
