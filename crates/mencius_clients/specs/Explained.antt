@@ -41,11 +41,6 @@ abbrev pub heard : Log → Log
 heard [] = []
 heard (o ∷ w) = if is_of_client o then o ∷ heard w else heard w
 
--- the log, after which one server executed these commands
-abbrev pub executed : List CommandId → Log → Log
-executed [] w = w
-executed (id ∷ ids) w = executed ids (Execute 0 id ∷ w)
-
 -- the judge has seen this log, under some numbers of its lines
 abbrev pub HasHeard : Judge → Log → Type 0
 HasHeard judge w = (n : NumberedLog) × HasSeen judge n × (log_of n ≡ w)
