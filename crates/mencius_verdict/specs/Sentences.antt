@@ -27,7 +27,7 @@ abbrev pub reply_sentence : CommandId → ℕ → Option (List ℕ) → Answer �
 reply_sentence id place text (Held found) =
     reply_words id (codes " must be ") ++ (held_text text ++ (gives_text place text ++ codes "."))
 reply_sentence id place text Done =
-    reply_words id (codes " must not be ok") ++ (gives_text place text ++ codes ", so the cas does not bind.")
+    reply_words id (codes " must not be ok") ++ (gives_text place text ++ codes ", so the command does not take effect.")
 reply_sentence id place text Failed =
     reply_words id (codes " must not be failed") ++ (gives_text place text ++ codes ", so the command takes effect.")
 

@@ -138,7 +138,7 @@ fn push_wrong_reply(
         Answer::Done => {
             push_about(text, "The reply to ", id, " must not be ok")?;
             push_gives(text, place, held)?;
-            text.push_str(", so the cas does not bind.")
+            text.push_str(", so the command does not take effect.")
         }
         Answer::Failed => {
             push_about(text, "The reply to ", id, " must not be failed")?;
