@@ -48,11 +48,12 @@ import threading
 TOP = os.path.dirname(os.path.dirname(os.path.realpath(__file__)))
 JUDGE = [os.path.join(TOP, "mencius"), "judge"]
 
+sys.path.append(os.path.join(TOP, "conformance"))
+
+from operations import OPERATIONS
+
 # The answers of a store that does not return the former text.
 OK, FAILED = object(), object()
-
-# How many texts each operation has.
-TEXTS = {"set": 1, "get": 0, "del": 0, "cas": 2}
 
 # Made words begin with `_`, and made identities and readers with MADE. What looks like a made word gets one of its own.
 MADE = 1_000_000
@@ -190,7 +191,7 @@ class Observing:
             return number
 
     def submit(self, id, operation, key, *texts):
-        if TEXTS.get(operation) != len(texts):
+        if operation not in OPERATIONS or OPERATIONS[operation].texts != len(texts):
             raise ValueError(f"{operation} with {len(texts)} texts is not an operation")
         with self.lock:
             self.write("submit", self.words.id(id), operation, self.words.key(key), *map(self.words.text, texts))

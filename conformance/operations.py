@@ -18,11 +18,25 @@ OPERATIONS = {
 NEWEST = max(operation.version for operation in OPERATIONS.values())
 
 
+def is_without_effect(held, word, texts):
+    """Whether an operation only reads, or expects a text that its key does not hold. None means that it holds no text."""
+    return word == "get" or (word == "cas" and held != texts[0])
+
+
 def text_after(held, word, texts):
     """The text that a key holds after an operation with these texts, if it held the text `held`. None means no text."""
-    if word == "set" or (word == "cas" and held == texts[0]):
-        return texts[-1]
-    return None if word == "del" else held
+    if is_without_effect(held, word, texts):
+        return held
+    return texts[-1] if texts else None
+
+
+def is_right(reply, held, word, texts):
+    """Whether a reply is right for an operation whose key held the text `held`. It is a word of a log, such as `ok`."""
+    if reply == "ok":
+        return word == "get" or not is_without_effect(held, word, texts)
+    if reply == "failed":
+        return is_without_effect(held, word, texts)
+    return reply == ("none" if held is None else "=" + held)
 
 
 def version_of(events):

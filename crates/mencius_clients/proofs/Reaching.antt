@@ -18,7 +18,8 @@ use Rattle.mencius_judge.proofs.observations.OrderSteps.{split_at}
 use Rattle.mencius_judge.proofs.promises.Identities.{has-append, other_id, same_id, same_id_eq}
 use Rattle.mencius_judge.proofs.promises.Logs.{command_found, commands-append, known}
 use Rattle.mencius_clients.specs.declared.configuration.Configuration.{Configuration}
-use Rattle.mencius_clients.specs.Configurations.{AreRead, HasRead, HasStep, IsAcknowledged, IsBarred, IsIdle, IsLess, IsOneOf, IsRead, IsStep, IsUnacknowledged, become, has_slot, is_cas, is_read, text_at}
+use Rattle.mencius_judge.specs.Operations.{is_read}
+use Rattle.mencius_clients.specs.Configurations.{AreRead, HasRead, HasStep, IsAcknowledged, IsBarred, IsIdle, IsLess, IsOneOf, IsRead, IsStep, IsUnacknowledged, become, has_slot, is_cas, text_at}
 use Rattle.mencius_clients.specs.Reached.{AreWaiting, IsCurrent, IsLostAt, IsReached, Renaming, is_same_text, overwritten, sees}
 use Rattle.mencius_clients.proofs.Later.{acknowledged_found, acknowledged_later, acknowledged_now, acknowledged_there, before_later, command_later}
 use Rattle.mencius_clients.proofs.Lacking.{has_back, has_either, has_front, has_item, lacks, lacks_back, lacks_both}

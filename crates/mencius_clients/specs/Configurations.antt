@@ -1,19 +1,18 @@
 -- The configurations of a key: which of the commands that wait for their replies have taken effect, and the key's text.
-use Rattle.std.specs.Prelude.{◌≡◌, ◌≢◌, ◌<◌, ◌≤◌, ◌⊎◌, ℕ, zero, suc, Bool, true, false, Contains, List, [], ◌∷◌, Option, Some, None, length, slice_get, slice_index, replicate, ◌/◌, ◌%◌, ◌==◌, if◌then◌else◌}
+use Rattle.std.specs.Prelude.{◌≡◌, ◌≢◌, ◌<◌, ◌≤◌, ◌⊎◌, ℕ, zero, suc, Bool, true, false, Contains, List, [], ◌∷◌, Option, Some, None, is_some, length, slice_get, slice_index, replicate, ◌/◌, ◌%◌, ◌==◌, if◌then◌else◌}
 use Rattle.std.specs.Int.{bit_at}
 use Rattle.std.specs.BTreeMap.{BTreeMap, get}
 use Rattle.std.specs.Ordering.{nat_cmp}
 use Rattle.mencius_base.specs.declared.command.Command.{Command}
 use Rattle.mencius_base.specs.declared.command.CommandId.{CommandId}
 use Rattle.mencius_base.specs.declared.command.Op.{Op}
-use Rattle.mencius_base.specs.declared.command.Op.TheVariants.{Set, Get, Del, Cas}
-use Rattle.mencius_model.specs.KeyMap.{has_text}
 use Rattle.mencius_judge.specs.Tables.{identity_key, number_count}
 use Rattle.mencius_log.specs.declared.observation.Observation.{Observation}
 use Rattle.mencius_log.specs.declared.observation.Answer.{Answer}
 use Rattle.mencius_log.specs.declared.observation.Answer.TheVariants.{Failed}
 use Rattle.mencius_log.specs.declared.observation.Observation.TheVariants.{Submit, Execute, Reply, Lookup, Tell, Settle, Restore}
-use Rattle.mencius_judge.specs.Answers.{IsRight}
+use Rattle.mencius_judge.specs.Answers.{IsRight, is_without_effect}
+use Rattle.mencius_judge.specs.Operations.{expected, is_read, new_text}
 use Rattle.mencius_judge.specs.Log.{is_failed}
 use Rattle.mencius_clients.specs.declared.configuration.Configuration.{Configuration}
 use Rattle.mencius_clients.specs.declared.slot_set.SlotSet.{SlotSet}
@@ -27,13 +26,6 @@ has_slot slots slot = bit_at (slice_index slots.words (slot / 64)) (slot % 64) =
 -- the empty set
 unfoldable pub no_slots : SlotSet
 no_slots = record { words = replicate 64 0 }
-
--- the text that an operation writes, if it writes one
-abbrev pub new_text : Op → Option (List ℕ)
-new_text (Set key text) = Some text
-new_text (Get key) = None
-new_text (Del key) = None
-new_text (Cas key old text) = Some text
 
 -- the command that a line submits
 abbrev pub submitted_by : Option Observation → Option Command
@@ -70,17 +62,11 @@ IsOneOf cs c = (n : ℕ) × (slice_get cs n ≡ Some c)
 
 -- the operation compares before it writes
 abbrev pub is_cas : Op → Bool
-is_cas (Set key text) = false
-is_cas (Get key) = false
-is_cas (Del key) = false
-is_cas (Cas key old text) = true
+is_cas op = is_some (expected op)
 
 -- the text that the key of an operation holds after it, if it held `held` before
 abbrev pub become : Option (List ℕ) → Op → Option (List ℕ)
-become held (Set key text) = Some text
-become held (Get key) = held
-become held (Del key) = None
-become held (Cas key old text) = if has_text held old then Some text else held
+become held op = if is_without_effect op held then held else new_text op
 
 -- a client got a reply other than `failed` to the command
 abbrev pub IsAcknowledged : List Observation → CommandId → Type 0
@@ -89,13 +75,6 @@ IsAcknowledged log id = (x : Answer) × Contains log (Reply id x) × (is_failed 
 -- no client ever gets a reply other than `failed` to the command
 abbrev pub IsUnacknowledged : List Observation → CommandId → Type 0
 IsUnacknowledged log id = IsAcknowledged log id → ⊥
-
--- the operation only reads
-abbrev pub is_read : Op → Bool
-is_read (Set key text) = false
-is_read (Get key) = true
-is_read (Del key) = false
-is_read (Cas key old text) = false
 
 -- the command has no reply other than `failed`, and changes nothing wherever an order may have it
 abbrev pub IsIdle : List Observation → Command → Type 0

@@ -6,7 +6,8 @@ use Rattle.mencius_model.specs.KeyMap.{key_of, value_at}
 use Rattle.mencius_log.specs.declared.observation.Observation.{Observation}
 use Rattle.mencius_judge.specs.Log.{Log, acknowledged, command_of, commands_of, has_id}
 use Rattle.mencius_clients.specs.declared.configuration.Configuration.{Configuration}
-use Rattle.mencius_clients.specs.Configurations.{IsIdle, IsOneOf, become, has_slot, is_cas, is_read, text_at}
+use Rattle.mencius_judge.specs.Operations.{is_read}
+use Rattle.mencius_clients.specs.Configurations.{IsIdle, IsOneOf, become, has_slot, is_cas, text_at}
 use Rattle.mencius_judge.specs.Linearization.{IsLinearization}
 
 -- the slots hold commands of the key that were submitted and not acknowledged, each one once. Every such command has a slot

@@ -3,14 +3,16 @@
 ghost use Rattle.std.specs.Prelude.{⊤, ◌≡◌, ◌↔◌, ◌<◌, ◌+◌, true, false, IfOk, IfSome, IsTrue, MatchOption, OnOk, Contains, Some, length, slice_get};
 ghost use Rattle.mencius_log.specs.declared.observation.Answer.{Answer};
 ghost use Rattle.mencius_log.specs.declared.observation.Observation.TheVariants.{Reply};
-ghost use Rattle.mencius_judge.specs.Answers.{IsRight, is_done, is_without_effect};
+ghost use Rattle.mencius_judge.specs.Answers.{IsRight};
 ghost use Rattle.mencius_judge.specs.Log.{is_failed};
-ghost use Rattle.mencius_clients.specs.Configurations.{AreReplyLines, HasNote, HasReplyLine, IsAcknowledged, IsIdle, IsUnacknowledged, is_read, text_at};
+ghost use Rattle.mencius_judge.specs.Operations.{is_read};
+ghost use Rattle.mencius_clients.specs.Configurations.{AreReplyLines, HasNote, HasReplyLine, IsAcknowledged, IsIdle, IsUnacknowledged, text_at};
 
 use crate::identities::identity_key;
 use crate::tables::put;
-use crate::texts::{has_text_at, is_text_at};
+use crate::texts::{is_done_at, is_text_at, is_without_effect_at};
 use mencius_base::{Command, CommandId, NoMemory, Op};
+use mencius_judge::operations::is_read;
 use mencius_log::{Answer, Observation};
 use std::alloc::Global;
 use std::collections::BTreeMap;
@@ -33,27 +35,6 @@ pub fn is_right_at(log: &[Observation], held: usize, op: &Op, answer: &Answer) -
         Answer::Held { text } => is_text_at(log, held, text),
         Answer::Done => is_done_at(log, held, op),
         Answer::Failed => is_without_effect_at(log, held, op),
-    }
-}
-
-// Returns whether `ok` is right for an operation whose key holds the text with this number.
-fn is_done_at(log: &[Observation], held: usize, op: &Op) -> bool
-    ensures { result ≡ is_done op.now (text_at log.now held) }
-{
-    match op {
-        Op::Set { .. } | Op::Get { .. } | Op::Del { .. } => true,
-        Op::Cas { held: old, .. } => has_text_at(log, held, old),
-    }
-}
-
-// Returns whether `failed` is right for an operation whose key holds the text with this number.
-fn is_without_effect_at(log: &[Observation], held: usize, op: &Op) -> bool
-    ensures { result ≡ is_without_effect op.now (text_at log.now held) }
-{
-    match op {
-        Op::Set { .. } | Op::Del { .. } => false,
-        Op::Get { .. } => true,
-        Op::Cas { held: old, .. } => !has_text_at(log, held, old),
     }
 }
 
@@ -155,16 +136,6 @@ pub fn is_idle(log: &[Observation], replies: &BTreeMap<u64, usize>, command: &Co
     match reply_at(log, replies, command.id()) {
         Some(answer) => is_failed(answer),
         None => is_read(command.op()),
-    }
-}
-
-// Returns whether an operation only reads.
-fn is_read(op: &Op) -> bool
-    ensures { result ≡ is_read op.now }
-{
-    match op {
-        Op::Get { .. } => true,
-        Op::Set { .. } | Op::Del { .. } | Op::Cas { .. } => false,
     }
 }
 

@@ -7,9 +7,9 @@ ghost use Rattle.mencius_clients.specs.Explained.{HasHeard, heard};
 ghost use Rattle.mencius_clients.specs.Keys.{AreKeys, PutsKey};
 
 use crate::tables::put_text;
-use crate::texts::key_of;
 use mencius_base::NoMemory;
 use mencius_judge::Judge;
+use mencius_judge::operations::key_of;
 use mencius_log::Observation;
 use std::alloc::Global;
 use std::collections::BTreeMap;

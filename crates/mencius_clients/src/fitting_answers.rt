@@ -12,8 +12,8 @@ ghost use Rattle.mencius_clients.specs.FittingAnswers.{AllFit, Fits, about_key};
 
 use crate::explanation::{Explanation, explain};
 use crate::key_lines::lines_of_key;
-use crate::texts::new_text;
 use mencius_base::{CommandId, NoMemory, Text};
+use mencius_judge::operations::new_text;
 use mencius_log::{Answer, Observation};
 use std::alloc::Global;
 

@@ -6,8 +6,9 @@ ghost use Rattle.mencius_base.specs.declared.command.Command.{Command};
 ghost use Rattle.mencius_clients.specs.Configurations.{submitted_by};
 ghost use Rattle.mencius_clients.specs.ClientVerdicts.{HasCommandAt, IsCommandAt, IsKeyAt};
 
-use crate::texts::{key_of, submitted_at};
+use crate::texts::submitted_at;
 use mencius_base::{Command, CommandId, NoMemory};
+use mencius_judge::operations::key_of;
 use mencius_log::Observation;
 use std::alloc::Global;
 

@@ -1,10 +1,13 @@
 //! Texts by their numbers. A text has the number 1 higher than the line of a command that writes it, and no text has 0.
 
 ghost use Rattle.std.specs.Prelude.{◌≡◌, ◌<◌, ◌↔◌, None, Some, IsTrue, MatchOption, length, slice_get};
-ghost use Rattle.mencius_model.specs.KeyMap.{has_text, key_of};
-ghost use Rattle.mencius_clients.specs.Configurations.{become, is_cas, new_text, submitted_by, text_at, text_of};
+ghost use Rattle.mencius_model.specs.KeyMap.{has_text};
+ghost use Rattle.mencius_judge.specs.Answers.{is_done, is_without_effect};
+ghost use Rattle.mencius_judge.specs.Operations.{new_text};
+ghost use Rattle.mencius_clients.specs.Configurations.{become, is_cas, submitted_by, text_at, text_of};
 
 use mencius_base::{Command, Op, Text};
+use mencius_judge::operations::{expected, is_read, new_text};
 use mencius_log::Observation;
 
 /// Returns the command that a line submits.
@@ -15,16 +18,6 @@ pub fn submitted_at(log: &[Observation], line: usize) -> Option<&Command>
     match log.get(line) {
         Some(Observation::Submit { command }) => Some(command),
         _ => None,
-    }
-}
-
-/// Returns the text that an operation writes.
-pub fn new_text(op: &Op) -> Option<&Text>
-    ensures { MatchOption result (new_text op.now ≡ None) (λ t. new_text op.now ≡ Some t.now) }
-{
-    match op {
-        Op::Set { text, .. } | Op::Cas { text, .. } => Some(text),
-        Op::Get { .. } | Op::Del { .. } => None,
     }
 }
 
@@ -70,10 +63,7 @@ pub fn is_same_text_at(log: &[Observation], number: usize, other: usize) -> bool
 pub fn is_cas(op: &Op) -> bool
     ensures { result ≡ is_cas op.now }
 {
-    match op {
-        Op::Set { .. } | Op::Get { .. } | Op::Del { .. } => false,
-        Op::Cas { .. } => true,
-    }
+    expected(op).is_some()
 }
 
 /// Returns whether a number has a text, and it is exactly this one.
@@ -86,27 +76,34 @@ pub fn has_text_at(log: &[Observation], number: usize, expected: &Text) -> bool
     }
 }
 
+/// Returns whether `ok` is right for an operation whose key holds the text with this number.
+pub fn is_done_at(log: &[Observation], held: usize, op: &Op) -> bool
+    ensures { result ≡ is_done op.now (text_at log.now held) }
+{
+    match expected(op) {
+        Some(old) => has_text_at(log, held, old),
+        None => true,
+    }
+}
+
+/// Returns whether `failed` is right for an operation whose key holds the text with this number.
+pub fn is_without_effect_at(log: &[Observation], held: usize, op: &Op) -> bool
+    ensures { result ≡ is_without_effect op.now (text_at log.now held) }
+{
+    is_read(op) || !is_done_at(log, held, op)
+}
+
 /// Returns the number of the text that a key holds after the operation that a line submits, if it held this one before.
 pub fn number_after(log: &[Observation], held: usize, line: usize, op: &Op) -> usize
     requires { line < length log.now }
     ensures { text_of (submitted_by (slice_get log.now line)) ≡ new_text op.now
         → text_at log.now result ≡ become (text_at log.now held) op.now }
 {
-    match op {
-        Op::Set { .. } => line + 1,
-        Op::Get { .. } => held,
-        Op::Del { .. } => 0,
-        Op::Cas { held: old, .. } if has_text_at(log, held, old) => line + 1,
-        Op::Cas { .. } => held,
+    if is_without_effect_at(log, held, op) {
+        return held;
     }
-}
-
-/// Returns the key of an operation.
-pub fn key_of(op: &Op) -> &str
-    ensures { result.now ≡ key_of op.now }
-{
-    match op {
-        Op::Set { key, .. } | Op::Get { key } | Op::Del { key } | Op::Cas { key, .. } =>
-            key.as_str(),
+    match new_text(op) {
+        Some(_) => line + 1,
+        None => 0,
     }
 }

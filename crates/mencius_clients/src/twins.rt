@@ -7,7 +7,8 @@ ghost use Rattle.mencius_clients.specs.Configurations.{GivesWay, waiting};
 use crate::configuration::Configuration;
 use crate::slot_set::SlotSet;
 use crate::texts::submitted_at;
-use mencius_base::{Command, NoMemory, Op};
+use mencius_base::{Command, NoMemory};
+use mencius_judge::operations::is_same_op;
 use mencius_log::Observation;
 use std::alloc::Global;
 
@@ -105,33 +106,4 @@ fn waiting_at<'a>(
         return None;
     };
     submitted_at(log, line)
-}
-
-// Returns whether two operations are the same and write.
-fn is_same_op(op: &Op, other: &Op) -> bool
-    ensures { IsTrue result → op.now ≡ other.now }
-{
-    match (op, other) {
-        (
-            Op::Set { key, text },
-            Op::Set {
-                key: other,
-                text: new,
-            },
-        ) => key.as_str() == other.as_str() && text.as_str() == new.as_str(),
-        (Op::Del { key }, Op::Del { key: other }) => key.as_str() == other.as_str(),
-        (
-            Op::Cas { key, held, text },
-            Op::Cas {
-                key: other,
-                held: old,
-                text: new,
-            },
-        ) => {
-            key.as_str() == other.as_str()
-                && held.as_str() == old.as_str()
-                && text.as_str() == new.as_str()
-        }
-        _ => false,
-    }
 }

@@ -1,4 +1,5 @@
 pub mod Log
+pub mod Operations
 pub mod Answers
 pub mod Promises
 pub mod Rows

@@ -4,7 +4,7 @@ ghost use Rattle.std.specs.Prelude.{◌≡◌, ◌↔◌, IfOk, IsTrue};
 ghost use Rattle.mencius_judge.specs.Answers.{IsRight, is_done, is_without_effect};
 ghost use Rattle.mencius_judge.specs.Log.{is_failed};
 
-use crate::operations::has_text;
+use crate::operations::{expected, has_text, is_read};
 use crate::texts::{copy_of, is_same_text};
 use mencius_base::{NoMemory, Op, Text};
 use mencius_log::Answer;
@@ -59,9 +59,9 @@ pub fn is_right(op: &Op, held: &Option<Text>, answer: &Answer) -> bool
 fn is_done(op: &Op, held: &Option<Text>) -> bool
     ensures { result ≡ is_done op.now held.now }
 {
-    match op {
-        Op::Set { .. } | Op::Get { .. } | Op::Del { .. } => true,
-        Op::Cas { held: old, .. } => has_text(held, old),
+    match expected(op) {
+        Some(old) => has_text(held, old),
+        None => true,
     }
 }
 
@@ -69,9 +69,5 @@ fn is_done(op: &Op, held: &Option<Text>) -> bool
 fn is_without_effect(op: &Op, held: &Option<Text>) -> bool
     ensures { result ≡ is_without_effect op.now held.now }
 {
-    match op {
-        Op::Set { .. } | Op::Del { .. } => false,
-        Op::Get { .. } => true,
-        Op::Cas { held: old, .. } => !has_text(held, old),
-    }
+    is_read(op) || !is_done(op, held)
 }

@@ -11,7 +11,7 @@ mod histories;
 mod judge;
 pub mod laws;
 mod log_reader;
-mod operations;
+pub mod operations;
 mod places;
 mod quote;
 mod quotes;

@@ -1,7 +1,8 @@
 //! Everything that distinguishes one operation on the map from another.
 
-ghost use Rattle.std.specs.Prelude.{◌≡◌, ◌↔◌, IfOk, IsTrue};
+ghost use Rattle.std.specs.Prelude.{◌≡◌, ◌↔◌, IfOk, IsTrue, MatchOption, None, Some};
 ghost use Rattle.mencius_model.specs.KeyMap.{has_text, key_of};
+ghost use Rattle.mencius_judge.specs.Operations.{expected, is_read, new_text};
 ghost use Rattle.mencius_judge.specs.Timelines.{Becomes};
 
 use crate::texts::copy_of;
@@ -44,6 +45,36 @@ pub fn key_of(op: &Op) -> &str
     match op {
         Op::Set { key, .. } | Op::Get { key } | Op::Del { key } | Op::Cas { key, .. } =>
             key.as_str(),
+    }
+}
+
+/// Returns the text that an operation expects its key to hold, if it compares before it writes.
+pub fn expected(op: &Op) -> Option<&Text>
+    ensures { MatchOption result (expected op.now ≡ None) (λ t. expected op.now ≡ Some t.now) }
+{
+    match op {
+        Op::Cas { held, .. } => Some(held),
+        Op::Set { .. } | Op::Get { .. } | Op::Del { .. } => None,
+    }
+}
+
+/// Returns the text that an operation writes.
+pub fn new_text(op: &Op) -> Option<&Text>
+    ensures { MatchOption result (new_text op.now ≡ None) (λ t. new_text op.now ≡ Some t.now) }
+{
+    match op {
+        Op::Set { text, .. } | Op::Cas { text, .. } => Some(text),
+        Op::Get { .. } | Op::Del { .. } => None,
+    }
+}
+
+/// Returns whether an operation only reads.
+pub fn is_read(op: &Op) -> bool
+    ensures { result ≡ is_read op.now }
+{
+    match op {
+        Op::Get { .. } => true,
+        Op::Set { .. } | Op::Del { .. } | Op::Cas { .. } => false,
     }
 }
 

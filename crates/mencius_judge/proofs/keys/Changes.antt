@@ -1,5 +1,5 @@
 -- The timelines stay right after a further command.
-use Rattle.std.proofs.Common.{◌≡◌, ◌≢◌, ◌⊎◌, inl, inr, ℕ, zero, suc, ◌+◌, ◌≤◌, Bool, true, false, cond, Global, String, List, [], ◌∷◌, ◌++◌, Option, Some, None, length, take, arith, refl, sym, subst, ap, ◌∙◌, ⊎_elim, length-append}
+use Rattle.std.proofs.Common.{◌≡◌, ◌≢◌, ◌⊎◌, inl, inr, ℕ, zero, suc, ◌+◌, ◌≤◌, Bool, true, false, not, cond, Global, String, List, [], ◌∷◌, ◌++◌, Option, Some, None, length, take, arith, refl, sym, subst, ap, ◌∙◌, ⊎_elim, length-append}
 use Rattle.std.specs.BTreeMap.{BTreeMap, get_by_text}
 use Rattle.std.specs.Str.{bytes_eq}
 use Rattle.std.specs.FinMap as finite
@@ -16,6 +16,8 @@ use Rattle.mencius_base.specs.declared.command.Op.TheVariants.{Set, Get, Del, Ca
 use Rattle.mencius_model.specs.KeyMap.{KeyMap, apply, has_text, key_of, map_after, value_at}
 use Rattle.mencius_model.proofs.replies.MapContents.{tested}
 use Rattle.mencius_judge.specs.declared.timeline.Timeline.{Timeline}
+use Rattle.mencius_judge.specs.Answers.{is_without_effect}
+use Rattle.mencius_judge.specs.Operations.{new_text}
 use Rattle.mencius_judge.specs.Timelines.{AreTimelines, Becomes, IsTimelineOf, held_by, text_of}
 use Rattle.mencius_judge.proofs.keys.Periods.{unchanged}
 use Rattle.mencius_judge.proofs.keys.TextMaps.{other_bytes, same_bytes}
@@ -35,7 +37,7 @@ get-taken m other key =
     ∙ ap (λ bit. cond bit None (finite.get m key)) (sym (tested other key))
 
 -- an operation does not change any other key
-get_elsewhere : (m : KeyMap) (op : Op) (key : List ℕ) → bytes_eq (key_of op) key ≡ false
+pub get_elsewhere : (m : KeyMap) (op : Op) (key : List ℕ) → bytes_eq (key_of op) key ≡ false
     → finite.get (apply m op) key ≡ finite.get m key
 get_elsewhere m (Set other text) key e =
     get-put m other text key ∙ ap (λ bit. cond bit (Some text) (finite.get m key)) e
@@ -66,7 +68,21 @@ put_where_held m key held text former new e is =
     by_held true = put_there m key text
     by_held false = refl
 
-store_more : (cs : List Command) (c : Command) → map_after (cs ++ c ∷ []) ≡ apply (map_after cs) c.op
+-- the key of an operation holds the new text after it, unless the operation changes nothing
+pub get_there : (m : KeyMap) (op : Op)
+    → finite.get (apply m op) (key_of op)
+    ≡ cond (is_without_effect op (finite.get m (key_of op))) (finite.get m (key_of op)) (new_text op)
+get_there m (Set key text) = sym (put_there m key text)
+get_there m (Get key) = refl
+get_there m (Del key) = sym (taken_there m key)
+get_there m (Cas key old text) = by_held (has_text (finite.get m key) old)
+  where
+    by_held : (bit : Bool)
+        → finite.get (cond bit (finite.insert m key text) m) key ≡ cond (not bit) (finite.get m key) (Some text)
+    by_held true = sym (put_there m key text)
+    by_held false = refl
+
+pub store_more : (cs : List Command) (c : Command) → map_after (cs ++ c ∷ []) ≡ apply (map_after cs) c.op
 store_more cs c = fold-append (λ (store : KeyMap) (command : Command). apply store command.op) finite.empty cs (c ∷ [])
 
 -- ---- numbers of commands

@@ -10,13 +10,11 @@ use Rattle.std.proofs.lemmas.Bool.{and_parts, eqb-true}
 use Rattle.std.proofs.lemmas.Bool.Decides.{nat_tests}
 use Rattle.std.proofs.lemmas.Fmt.{decimal-digits_value}
 use Rattle.std.proofs.lemmas.List.Splits.{join_with_byte-slice_split}
-use Rattle.std.proofs.lemmas.Slice.Eq.{bytes_eq-Decides}
 use Rattle.std.proofs.lemmas.Str.Parse.{numerals_by_value, tells_digits}
 use Rattle.mencius_base.specs.Command.{is_name}
 use Rattle.mencius_base.specs.declared.command.Command.{Command}
 use Rattle.mencius_base.specs.declared.command.CommandId.{CommandId}
 use Rattle.mencius_base.specs.declared.command.Op.{Op}
-use Rattle.mencius_base.specs.declared.command.Op.TheVariants.{Set, Get, Del, Cas}
 use Rattle.mencius_io.specs.declared.fault.IoFault.TheVariants.{BadLimit, BadShape}
 use Rattle.mencius_format.specs.Grammar.{command_of, id_of, is_command_within, is_id_within, newest_version, two_numbers}
 use Rattle.mencius_format.specs.Operations.{has_names, is_op_within, newest_op_of, op_of, op_text, op_version}
@@ -25,6 +23,7 @@ use Rattle.mencius_format.specs.Texts.{command_text, id_text}
 use Rattle.mencius_format.specs.ValuesOrFaults.{map_ok, value_or_fault}
 use Rattle.mencius_format.specs.Words.{is_number, is_u32, name_of, number_of, parts, words}
 use Rattle.mencius_format.proofs.NumberWords.{number_digits}
+use Rattle.mencius_format.proofs.OperationWords.{chosen, newest_op_text, newest_op_word}
 use Rattle.mencius_log.specs.declared.observation.Answer.{Answer}
 use Rattle.mencius_log.specs.declared.observation.Answer.TheVariants.{Held, Done, Failed}
 use Rattle.mencius_log.specs.declared.observation.Observation.{Observation}
@@ -118,40 +117,6 @@ id_word word x id e same fits =
 
 -- ---- operations and commands
 
-is_text : (word text : List ℕ) → bytes_eq word text ≡ true → word ≡ text
-is_text word text e = (bytes_eq-Decides word text).0 e
-
--- a choice by a word
-chosen : {X : Type 0} (Goal : Type 0) (word name : List ℕ) (first other : Option X) (x : X)
-    → cond (bytes_eq word name) first other ≡ Some x → (word ≡ name → first ≡ Some x → Goal) → (other ≡ Some x → Goal)
-    → Goal
-chosen Goal word name first other x e here there = by_test (bytes_eq word name) refl e
-  where
-    by_test : (d : Bool) → bytes_eq word name ≡ d → cond d first other ≡ Some x → Goal
-    by_test true is g = here (is_text word name is) g
-    by_test false is g = there g
-
-newest_op : (ws : List (List ℕ)) (op : Op) → newest_op_of ws ≡ Some op → join_with_byte 32 ws ≡ op_text op
-unfolding newest_op_of
-newest_op [] op e = absurd (cc)
-newest_op (word ∷ []) op e = absurd (cc)
-newest_op (word ∷ key ∷ []) op e =
-    chosen (join_with_byte 32 (word ∷ key ∷ []) ≡ op_text op) word (codes "get") (Some (Get key)) _ op e
-    (λ is g. let same : Get key ≡ op = cc in ap (λ w. w ++ 32 ∷ key) is ∙ ap op_text same)
-    (λ h. chosen (join_with_byte 32 (word ∷ key ∷ []) ≡ op_text op) word (codes "del") (Some (Del key)) None op h
-    (λ is g. let same : Del key ≡ op = cc in ap (λ w. w ++ 32 ∷ key) is ∙ ap op_text same) (λ g. absurd (cc)))
-newest_op (word ∷ key ∷ text ∷ []) op e =
-    chosen (join_with_byte 32 (word ∷ key ∷ text ∷ []) ≡ op_text op) word (codes "set") (Some (Set key text)) None op e
-    (λ is g. let same : Set key text ≡ op = cc in ap (λ w. w ++ 32 ∷ (key ++ 32 ∷ text)) is ∙ ap op_text same)
-    (λ g. absurd (cc))
-newest_op (word ∷ key ∷ held ∷ text ∷ []) op e =
-    chosen (join_with_byte 32 (word ∷ key ∷ held ∷ text ∷ []) ≡ op_text op) word (codes "cas")
-    (Some (Cas key held text)) None op e
-    (λ is g. let same : Cas key held text ≡ op = cc in
-    ap (λ w. w ++ 32 ∷ (key ++ 32 ∷ (held ++ 32 ∷ text))) is ∙ ap op_text same)
-    (λ g. absurd (cc))
-newest_op (word ∷ key ∷ held ∷ text ∷ more ∷ ws) op e = absurd (cc)
-
 op_words : (ws : List (List ℕ)) (op : Op) → op_of newest_version ws ≡ Some op → newest_op_of ws ≡ Some op
 unfolding op_of
 op_words ws op e = by_op (newest_op_of ws) e
@@ -165,12 +130,6 @@ op_words ws op e = by_op (newest_op_of ws) e
         → o ≡ Some op
     by_op None g = absurd (cc)
     by_op (Some x) g = kept (may_stand_in (op_version x) newest_version && has_names x) x g
-
-some_word : (ws : List (List ℕ)) (op : Op) → newest_op_of ws ≡ Some op
-    → (x : List ℕ) × (xs : List (List ℕ)) × (ws ≡ x ∷ xs)
-unfolding newest_op_of
-some_word [] op e = absurd (cc)
-some_word (x ∷ xs) op e = (x, xs, refl)
 
 -- the text of a word and of some words after it
 put_before : (word : List ℕ) (ws : List (List ℕ)) (x : List ℕ) (xs : List (List ℕ)) → ws ≡ x ∷ xs
@@ -187,11 +146,11 @@ command_words word ws c e fits =
     let both = zipped (id_of word) (op_of newest_version ws) made.0 made.1 in
     let small = and_parts (is_id_within c.id) (is_op_within c.op) fits in
     let op = op_words ws made.0.1 both.1 in
-    let some = some_word ws made.0.1 op in
+    let some = newest_op_word ws made.0.1 op in
     put_before word ws some.0 some.1 some.2
     ∙ ap₂ (λ (u v : List ℕ). u ++ 32 ∷ v)
     (id_word word made.0.0 c.id both.0 (ap (λ (x : Command). x.id) made.2) small.0)
-    (newest_op ws made.0.1 op ∙ ap (λ (x : Command). op_text x.op) made.2)
+    (newest_op_text ws made.0.1 op ∙ ap (λ (x : Command). op_text x.op) made.2)
 
 -- ---- answers
 
