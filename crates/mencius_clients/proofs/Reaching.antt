@@ -5,7 +5,7 @@ use Rattle.std.proofs.lemmas.Bool.{cases_Bool, cases_eq, or_cases, or_left, or_r
 use Rattle.mencius_base.specs.Command.{is_same_id}
 use Rattle.mencius_base.specs.declared.command.Command.{Command}
 use Rattle.mencius_base.specs.declared.command.CommandId.{CommandId}
-use Rattle.mencius_model.specs.KeyMap.{key_of, value_at}
+use Rattle.mencius_model.specs.KeyMap.{key_of, value_at, is_read}
 use Rattle.mencius_log.specs.declared.observation.Answer.{Answer}
 use Rattle.mencius_log.specs.declared.observation.Answer.TheVariants.{Failed}
 use Rattle.mencius_log.specs.declared.observation.Observation.{Observation}
@@ -18,7 +18,6 @@ use Rattle.mencius_judge.proofs.observations.OrderSteps.{split_at}
 use Rattle.mencius_judge.proofs.promises.Identities.{has-append, other_id, same_id, same_id_eq}
 use Rattle.mencius_judge.proofs.promises.Logs.{command_found, commands-append, known}
 use Rattle.mencius_clients.specs.declared.configuration.Configuration.{Configuration}
-use Rattle.mencius_judge.specs.Operations.{is_read}
 use Rattle.mencius_clients.specs.Configurations.{AreRead, HasRead, HasStep, IsAcknowledged, IsBarred, IsIdle, IsLess, IsOneOf, IsRead, IsStep, IsUnacknowledged, become, has_slot, is_cas, text_at}
 use Rattle.mencius_clients.specs.Reached.{AreWaiting, IsCurrent, IsLostAt, IsReached, Renaming, is_same_text, overwritten, sees}
 use Rattle.mencius_clients.proofs.Later.{acknowledged_found, acknowledged_later, acknowledged_now, acknowledged_there, before_later, command_later}

@@ -13,7 +13,7 @@ use Rattle.mencius_log.specs.declared.observation.Observation.TheVariants.{Reply
 use Rattle.mencius_judge.specs.Log.{is_failed}
 use Rattle.mencius_judge.specs.Tables.{identity_key, number_count}
 use Rattle.mencius_judge.proofs.promises.Identities.{get_here, get_there, id_cases}
-use Rattle.mencius_judge.specs.Operations.{is_read}
+use Rattle.mencius_model.specs.KeyMap.{is_read}
 use Rattle.mencius_clients.specs.Configurations.{AreReplyLines, HasNote, HasReplyLine, IsIdle, IsUnacknowledged}
 
 pub none_noted : (log : List Observation) (m : BTreeMap ℕ ℕ) → AreReplyLines log m 0

@@ -3,10 +3,9 @@ use Rattle.std.proofs.Common.{◌≡◌, ◌≢◌, ◌||◌, Bool, true, false,
 use Rattle.std.specs.FinMap as finite
 use Rattle.mencius_base.specs.declared.command.Command.{Command}
 use Rattle.mencius_base.specs.declared.command.Op.{Op}
-use Rattle.mencius_model.specs.KeyMap.{apply, key_of, map_after, value_at}
+use Rattle.mencius_model.specs.KeyMap.{apply, key_of, map_after, value_at, expected, is_read, new_text}
 use Rattle.mencius_log.specs.declared.observation.Observation.{Observation}
 use Rattle.mencius_judge.specs.Answers.{is_done, is_met, is_without_effect}
-use Rattle.mencius_judge.specs.Operations.{expected, is_read, new_text}
 use Rattle.mencius_judge.proofs.keys.Changes.{get_elsewhere, get_there, store_more}
 use Rattle.mencius_judge.proofs.keys.TextMaps.{other_bytes}
 use Rattle.mencius_clients.specs.Configurations.{become, is_cas, submitted_by, text_at, text_of}

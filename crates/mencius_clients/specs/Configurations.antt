@@ -12,7 +12,7 @@ use Rattle.mencius_log.specs.declared.observation.Answer.{Answer}
 use Rattle.mencius_log.specs.declared.observation.Answer.TheVariants.{Failed}
 use Rattle.mencius_log.specs.declared.observation.Observation.TheVariants.{Submit, Execute, Reply, Lookup, Tell, Settle, Restore}
 use Rattle.mencius_judge.specs.Answers.{IsRight, is_without_effect}
-use Rattle.mencius_judge.specs.Operations.{expected, is_read, new_text}
+use Rattle.mencius_model.specs.KeyMap.{expected, is_read, new_text}
 use Rattle.mencius_judge.specs.Log.{is_failed}
 use Rattle.mencius_clients.specs.declared.configuration.Configuration.{Configuration}
 use Rattle.mencius_clients.specs.declared.slot_set.SlotSet.{SlotSet}

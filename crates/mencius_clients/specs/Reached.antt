@@ -2,11 +2,10 @@
 use Rattle.std.specs.Prelude.{◌≡◌, ◌⊎◌, ℕ, Bool, true, false, List, [], ◌∷◌, ◌++◌, Option, Some, None, bytes_eq, if◌then◌else◌, is_some}
 use Rattle.mencius_base.specs.declared.command.Command.{Command}
 use Rattle.mencius_base.specs.declared.command.CommandId.{CommandId}
-use Rattle.mencius_model.specs.KeyMap.{key_of, value_at}
+use Rattle.mencius_model.specs.KeyMap.{key_of, value_at, is_read}
 use Rattle.mencius_log.specs.declared.observation.Observation.{Observation}
 use Rattle.mencius_judge.specs.Log.{Log, acknowledged, command_of, commands_of, has_id}
 use Rattle.mencius_clients.specs.declared.configuration.Configuration.{Configuration}
-use Rattle.mencius_judge.specs.Operations.{is_read}
 use Rattle.mencius_clients.specs.Configurations.{IsIdle, IsOneOf, become, has_slot, is_cas, text_at}
 use Rattle.mencius_judge.specs.Linearization.{IsLinearization}
 

@@ -5,7 +5,7 @@ ghost use Rattle.mencius_log.specs.declared.observation.Answer.{Answer};
 ghost use Rattle.mencius_log.specs.declared.observation.Observation.TheVariants.{Reply};
 ghost use Rattle.mencius_judge.specs.Answers.{IsRight};
 ghost use Rattle.mencius_judge.specs.Log.{is_failed};
-ghost use Rattle.mencius_judge.specs.Operations.{is_read};
+ghost use Rattle.mencius_model.specs.KeyMap.{is_read};
 ghost use Rattle.mencius_clients.specs.Configurations.{AreReplyLines, HasNote, HasReplyLine, IsAcknowledged, IsIdle, IsUnacknowledged, text_at};
 
 use crate::identities::identity_key;

@@ -1,9 +1,8 @@
 //! Texts by their numbers. A text has the number 1 higher than the line of a command that writes it, and no text has 0.
 
 ghost use Rattle.std.specs.Prelude.{◌≡◌, ◌<◌, ◌↔◌, None, Some, IsTrue, MatchOption, length, slice_get};
-ghost use Rattle.mencius_model.specs.KeyMap.{has_text};
+ghost use Rattle.mencius_model.specs.KeyMap.{has_text, new_text};
 ghost use Rattle.mencius_judge.specs.Answers.{is_done, is_without_effect};
-ghost use Rattle.mencius_judge.specs.Operations.{new_text};
 ghost use Rattle.mencius_clients.specs.Configurations.{become, is_cas, submitted_by, text_at, text_of};
 
 use mencius_base::{Command, Op, Text};

@@ -1,8 +1,7 @@
 -- When a reply to a command is right.
 use Rattle.std.specs.Prelude.{◌≡◌, ◌||◌, ℕ, Bool, true, not, List, Option, Some, None, IsTrue}
 use Rattle.mencius_base.specs.declared.command.Op.{Op}
-use Rattle.mencius_model.specs.KeyMap.{has_text}
-use Rattle.mencius_judge.specs.Operations.{expected, is_read}
+use Rattle.mencius_model.specs.KeyMap.{has_text, expected, is_read}
 use Rattle.mencius_log.specs.declared.observation.Answer.{Answer}
 use Rattle.mencius_log.specs.declared.observation.Answer.TheVariants.{Held, Done, Failed}
 

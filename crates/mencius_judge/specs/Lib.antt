@@ -1,5 +1,4 @@
 pub mod Log
-pub mod Operations
 pub mod Answers
 pub mod Promises
 pub mod Rows

@@ -1,8 +1,7 @@
 //! Everything that distinguishes one operation on the map from another.
 
 ghost use Rattle.std.specs.Prelude.{◌≡◌, ◌↔◌, IfOk, IsTrue, MatchOption, None, Some};
-ghost use Rattle.mencius_model.specs.KeyMap.{has_text, key_of};
-ghost use Rattle.mencius_judge.specs.Operations.{expected, is_read, new_text};
+ghost use Rattle.mencius_model.specs.KeyMap.{has_text, key_of, expected, is_read, new_text};
 ghost use Rattle.mencius_judge.specs.Timelines.{Becomes};
 
 use crate::texts::copy_of;

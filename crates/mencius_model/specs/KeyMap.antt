@@ -1,5 +1,5 @@
 -- The map from keys to texts, and the effect of commands on it.
-use Rattle.std.specs.Prelude.{ℕ, Bool, false, List, Option, Some, None, bytes_eq, if◌then◌else◌}
+use Rattle.std.specs.Prelude.{ℕ, Bool, true, false, List, Option, Some, None, bytes_eq, if◌then◌else◌}
 use Rattle.std.specs.List.{fold}
 use Rattle.std.specs.Ordering.{nat_cmp}
 use Rattle.std.specs.Cmp.Lexicographic.{slice_cmp}
@@ -32,6 +32,27 @@ key_of (Set key text) = key
 key_of (Get key) = key
 key_of (Del key) = key
 key_of (Cas key held text) = key
+
+-- The text that an operation expects its key to hold, if it compares before it writes.
+abbrev pub expected : Op → Option (List ℕ)
+expected (Set key text) = None
+expected (Get key) = None
+expected (Del key) = None
+expected (Cas key held text) = Some held
+
+-- The text that an operation writes, if it writes one.
+abbrev pub new_text : Op → Option (List ℕ)
+new_text (Set key text) = Some text
+new_text (Get key) = None
+new_text (Del key) = None
+new_text (Cas key held text) = Some text
+
+-- Whether an operation only reads.
+abbrev pub is_read : Op → Bool
+is_read (Set key text) = false
+is_read (Get key) = true
+is_read (Del key) = false
+is_read (Cas key held text) = false
 
 -- The map that these commands build from the empty map, one after the other.
 abbrev pub map_after : List Command → KeyMap

@@ -13,11 +13,10 @@ use Rattle.std.proofs.lemmas.Slice.Eq.{bytes_eq-Decides}
 use Rattle.mencius_base.specs.declared.command.Command.{Command}
 use Rattle.mencius_base.specs.declared.command.Op.{Op}
 use Rattle.mencius_base.specs.declared.command.Op.TheVariants.{Set, Get, Del, Cas}
-use Rattle.mencius_model.specs.KeyMap.{KeyMap, apply, has_text, key_of, map_after, value_at}
+use Rattle.mencius_model.specs.KeyMap.{KeyMap, apply, has_text, key_of, map_after, value_at, new_text}
 use Rattle.mencius_model.proofs.replies.MapContents.{tested}
 use Rattle.mencius_judge.specs.declared.timeline.Timeline.{Timeline}
 use Rattle.mencius_judge.specs.Answers.{is_without_effect}
-use Rattle.mencius_judge.specs.Operations.{new_text}
 use Rattle.mencius_judge.specs.Timelines.{AreTimelines, Becomes, IsTimelineOf, held_by, text_of}
 use Rattle.mencius_judge.proofs.keys.Periods.{unchanged}
 use Rattle.mencius_judge.proofs.keys.TextMaps.{other_bytes, same_bytes}

@@ -3,7 +3,7 @@ use Rattle.std.specs.List.{Contains}
 use Rattle.mencius_base.specs.declared.command.CommandId.{CommandId}
 use Rattle.mencius_log.specs.declared.observation.Observation.TheVariants.{Reply}
 use Rattle.mencius_judge.specs.Tables.{number_count}
-use Rattle.mencius_judge.specs.Operations.{is_read}
+use Rattle.mencius_model.specs.KeyMap.{is_read}
 use Rattle.mencius_clients.proofs.ReplyLines.{idle_failed, idle_read, no_reply}
 use Rattle.mencius_clients.proofs.answers.is_idle.Goals as goal
 
