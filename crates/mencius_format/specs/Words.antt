@@ -13,6 +13,11 @@ parts mark text = slice_split (λ byte. byte == mark) text
 abbrev pub words : List ℕ → List (List ℕ)
 words text = parts 32 text
 
+-- the words that are left of a text, of which nothing may be left
+abbrev pub words_left : Option (List ℕ) → List (List ℕ)
+words_left None = []
+words_left (Some text) = words text
+
 -- the word is `0`, or a digit from 1 to 9 followed by any number of digits
 abbrev pub is_number : List ℕ → Bool
 is_number [] = false

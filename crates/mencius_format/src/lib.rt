@@ -3,8 +3,8 @@
 //! Both directions share their definitions. `print` writes the text. `words` splits a text into words and reads its
 //! numbers. `parse` builds the event or the command that a text describes, or returns its fault. `operations` contains
 //! everything that differs from one operation to another. The law in [`laws`] says that a written text is read back
-//! unchanged. The crates above decide where a text comes from and where it goes. `shown_text` shows a text in the words of
-//! an explanation.
+//! unchanged. The crates above decide where a text comes from and where it goes. `words_left` takes the words of a text
+//! one by one for an explanation, and `shown_text` shows a text in the words of one.
 #![tactic(auto)]
 
 mod both_or_fault;
@@ -17,6 +17,7 @@ mod shown_text;
 mod text_version;
 mod version;
 mod words;
+mod words_left;
 
 pub use both_or_fault::both;
 pub use operations::{NO_OPERATION, operands_of, version_of_command};
@@ -33,3 +34,4 @@ pub use shown_text::shown;
 pub use text_version::{command_version, event_version, submit_version};
 pub use version::{FIRST_VERSION, NEWEST_VERSION, may_stand_in};
 pub use words::{cut_at_dot, cut_at_space, parse_u8, parse_u32};
+pub use words_left::{left_over, next_word};

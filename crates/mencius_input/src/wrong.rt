@@ -3,8 +3,8 @@
 use crate::kind::Kind;
 use mencius_base::{BadCommand, Command, CommandId, Key, NoMemory, Op, Text};
 use mencius_format::{
-    NO_OPERATION, Part, command_version, cut_at_dot, cut_at_space, event_version, fault_of,
-    may_stand_in, operands_of, parse_id, parse_u8, parse_u32, shown,
+    NO_OPERATION, Part, command_version, cut_at_dot, event_version, fault_of, left_over,
+    may_stand_in, next_word, operands_of, parse_id, parse_u8, parse_u32, shown,
 };
 use mencius_io::IoFault;
 use std::alloc::Global;
@@ -17,21 +17,6 @@ fn parts_behind(first: &str) -> Option<&'static [Part]> {
         "retry" | "execute" => Some(&[Part::Server]),
         "submit" => Some(&[Part::Server, Part::Id]),
         _ => None,
-    }
-}
-
-// Takes the next word from the text that is left.
-fn next_word<'a>(left: &mut Option<&'a str>) -> Option<&'a str> {
-    let text = (*left)?;
-    match cut_at_space(text) {
-        Ok((word, behind)) => {
-            *left = Some(behind);
-            Some(word)
-        }
-        Err(_) => {
-            *left = None;
-            Some(text)
-        }
     }
 }
 
@@ -233,18 +218,6 @@ fn unknown(alloc: Global, first: &str, is_whole: bool) -> Result<String, NoMemor
         "it begins with a space"
     };
     Ok(String::from_str(alloc, words)?)
-}
-
-// Describes the problem with words that are left after the last word of a text.
-fn left_over(alloc: Global, left: &mut Option<&str>) -> Result<String, NoMemory> {
-    match next_word(left) {
-        Some("") => Ok(String::from_str(alloc, "there is a space too many")?),
-        Some(word) => {
-            let word = shown(alloc, word)?;
-            Ok(format!(in alloc; "there is a word too many: {word}")?)
-        }
-        None => Ok(String::from_str(alloc, "a word of it is wrong")?),
-    }
 }
 
 // Describes the problem with the text of an event.

@@ -2,7 +2,9 @@
 
 use crate::line::{MOST_LINE_BYTES, without_return};
 use mencius_base::{MOST_KEY_BYTES, MOST_TEXT_BYTES, NoMemory, is_name};
-use mencius_format::{NO_OPERATION, Part, cut_at_space, operands_of, parse_id, parse_u32, shown};
+use mencius_format::{
+    NO_OPERATION, Part, left_over, next_word, operands_of, parse_id, parse_u32, shown,
+};
 use mencius_io::IoFault;
 use std::alloc::Global;
 
@@ -93,18 +95,6 @@ fn unknown(alloc: Global, first: &str) -> Result<String, NoMemory> {
     }
 }
 
-// Explains the words that are left after the last word of an observation.
-fn left_over(alloc: Global, left: &mut Option<&str>) -> Result<String, NoMemory> {
-    match next_word(left) {
-        Some("") => Ok(String::from_str(alloc, "there is a space too many")?),
-        Some(word) => {
-            let word = shown(alloc, word)?;
-            Ok(format!(in alloc; "there is a word too many: {word}")?)
-        }
-        None => Ok(String::from_str(alloc, "a word of it is wrong")?),
-    }
-}
-
 // Returns the kinds of the words after the first one, up to the operation of a command. Returns `None` if no
 // observation begins with `first`.
 fn words_behind(first: &str) -> Option<&'static [Word]> {
@@ -117,21 +107,6 @@ fn words_behind(first: &str) -> Option<&'static [Word]> {
         "settled" => Some(&[Word::Server]),
         "restore" => Some(&[Word::Server, Word::Source, Word::Count]),
         _ => None,
-    }
-}
-
-// Takes the next word off the words that are left.
-fn next_word<'a>(left: &mut Option<&'a str>) -> Option<&'a str> {
-    let text = (*left)?;
-    match cut_at_space(text) {
-        Ok((word, behind)) => {
-            *left = Some(behind);
-            Some(word)
-        }
-        Err(_) => {
-            *left = None;
-            Some(text)
-        }
     }
 }
 
