@@ -1,5 +1,5 @@
 -- Lists of texts.
 pub mod VersionItems
 pub mod ListItems
-pub mod ListedEvents
+pub mod EventEntries
 pub mod GoodItems
