@@ -3,7 +3,7 @@ use Rattle.std.proofs.Common.{◌≡◌, ◌⊎◌, inl, inr, ℕ, zero, suc, �
 use Rattle.std.specs.List.{filter}
 use Rattle.std.specs.List.Sorted.{IsNonDecreasingBy, IsStableByKey}
 use Rattle.std.specs.Ordering.{is_lt, nat_cmp}
-use Rattle.std.proofs.lemmas.Bool.{cases_Bool}
+use Rattle.std.proofs.lemmas.Bool.{cases_Bool, cases_order}
 use Rattle.std.proofs.lemmas.Bool.Decides.{nat_tests}
 use Rattle.mencius_clients.specs.declared.timed_command.TimedCommand.{TimedCommand}
 use Rattle.mencius_clients.proofs.LocalitySorting.{Each, IsFirst, IsSorted, each_more, filter_none, kept_order, sorted_sorted}
@@ -82,16 +82,6 @@ same_rest : (b : Bool) (x : TimedCommand) (xs ys : List TimedCommand) → cond b
 same_rest true x xs ys e = cc
 same_rest false x xs ys e = e
 
-places : (a b : ℕ) → (a < b) ⊎ ((a ≡ b) ⊎ (b < a))
-places zero zero = inr (inl refl)
-places zero (suc b) = inl (omega arith)
-places (suc a) zero = inr (inr (omega arith))
-places (suc a) (suc b) =
-    elim (places a b) [
-      | inl less ↦ inl (omega (arith, less))
-      | inr rest ↦ elim rest [ inl same ↦ inr (inl (ap suc same)) | inr less ↦ inr (inr (omega (arith, less))) ]
-    ]
-
 -- two sorted lists are the same if they have the same commands at each moment, in the same order
 same_sorts : (xs ys : List TimedCommand) → IsSorted xs → IsSorted ys
     → ((z : TimedCommand) → filter (tie z) xs ≡ filter (tie z) ys) → xs ≡ ys
@@ -99,22 +89,20 @@ same_sorts [] [] s t h = refl
 same_sorts [] (y ∷ ys) s t h = let e : [] ≡ y ∷ filter (tie y) ys = h y ∙ own_tie y ys in absurd (cc)
 same_sorts (x ∷ xs) [] s t h = let e : x ∷ filter (tie x) xs ≡ [] = sym (own_tie x xs) ∙ h x in absurd (cc)
 same_sorts (x ∷ xs) (y ∷ ys) s t h =
-    elim (places x.moment y.moment) [
-      | inl less ↦
+    elim (cases_order x.moment y.moment) [
+      | inl same ↦
+          let tied : tie x y ≡ true = subst (λ n. is_equal x.moment n ≡ true) same (equal_same x.moment) in
+          let e : x ∷ filter (tie x) xs ≡ y ∷ filter (tie x) ys =
+          sym (own_tie x xs) ∙ h x ∙ ap (λ d. cond d (y ∷ filter (tie x) ys) (filter (tie x) ys)) tied in
+          let one : x ≡ y = cc in
+          let after : xs ≡ ys = same_sorts xs ys s.1 t.1 (λ z.
+          same_rest (tie z x) x (filter (tie z) xs) (filter (tie z) ys)
+          (h z ∙ sym (ap (λ c. cond (tie z c) (c ∷ filter (tie z) ys) (filter (tie z) ys)) one))) in
+          cc
+      | inr (inl less) ↦
           let e : x ∷ filter (tie x) xs ≡ [] = sym (own_tie x xs) ∙ h x ∙ none_tie x y ys less t.0 in absurd (cc)
-      | inr rest ↦ elim rest [
-        | inl same ↦
-            let tied : tie x y ≡ true = subst (λ n. is_equal x.moment n ≡ true) same (equal_same x.moment) in
-            let e : x ∷ filter (tie x) xs ≡ y ∷ filter (tie x) ys =
-            sym (own_tie x xs) ∙ h x ∙ ap (λ d. cond d (y ∷ filter (tie x) ys) (filter (tie x) ys)) tied in
-            let one : x ≡ y = cc in
-            let after : xs ≡ ys = same_sorts xs ys s.1 t.1 (λ z.
-            same_rest (tie z x) x (filter (tie z) xs) (filter (tie z) ys)
-            (h z ∙ sym (ap (λ c. cond (tie z c) (c ∷ filter (tie z) ys) (filter (tie z) ys)) one))) in
-            cc
-        | inr less ↦
-            let e : y ∷ filter (tie y) ys ≡ [] = sym (own_tie y ys) ∙ sym (h y) ∙ none_tie y x xs less s.0 in absurd (cc)
-      ]
+      | inr (inr less) ↦
+          let e : y ∷ filter (tie y) ys ≡ [] = sym (own_tie y ys) ∙ sym (h y) ∙ none_tie y x xs less s.0 in absurd (cc)
     ]
 
 pub from_sort : (xs ys : List TimedCommand) → IsNonDecreasingBy (λ (c : TimedCommand). c.moment) ys

@@ -21,7 +21,7 @@ use Rattle.mencius_clients.specs.declared.timed_command.TimedCommand.{TimedComma
 use Rattle.mencius_clients.specs.ClientCounts.{has_key}
 use Rattle.mencius_clients.specs.Explained.{IsLinearizable}
 use Rattle.mencius_clients.specs.Locality.{IsLocal, IsTimed, acknowledged_at, ids_of, is_of_key, is_on_key, log_of_key, order_of_key, submitted_at}
-use Rattle.mencius_clients.proofs.Lacking.{IsOnce, has_item, lacks}
+use Rattle.mencius_clients.proofs.Lacking.{IsOnce, has_back, has_item, lacks}
 use Rattle.mencius_clients.proofs.LocalityLogs.{before_if_earlier, before_kept, command_dropped, command_kept}
 use Rattle.mencius_clients.proofs.LocalityOrders.{once_splits}
 use Rattle.mencius_clients.proofs.LocalitySorting.{Each, IsSorted, each_all, each_append, filter_all, filter_ids, filter_none, kept_order, sorted_each, sorted_rising, sorted_sorted}
@@ -29,10 +29,6 @@ use Rattle.mencius_clients.specs.KeyOrders.{sorted}
 use Rattle.mencius_clients.proofs.LocalityWhole.{by_moments, restricted}
 
 -- ---- lists
-
-has_later : (xs ys : List CommandId) (id : CommandId) → has_id ys id ≡ true → has_id (xs ++ ys) id ≡ true
-has_later [] ys id h = h
-has_later (x ∷ xs) ys id h = or_right (is_same_id x id) (has_id (xs ++ ys) id) (has_later xs ys id h)
 
 not_in_front : (order front back : List CommandId) (x y : CommandId) → IsOnce order → order ≡ front ++ x ∷ back
     → has_id (x ∷ back) y ≡ true → has_id front y ≡ false
@@ -144,7 +140,7 @@ module _ (w : Log) where
         too_early : acknowledged_at w y < submitted_at w x → ⊥
         too_early less =
             let has_x = has_item order front back x e in
-            let has_y = ap (λ ids. has_id ids y) e ∙ has_later front (x ∷ back) y has in
+            let has_y = ap (λ ids. has_id ids y) e ∙ has_back front (x ∷ back) y has in
             let there = all_known x has_x in
             let before = before_kept own w x y (all_own x has_x) (all_own y has_y) there
             ∙ before_if_earlier w x y there (acked, less) in

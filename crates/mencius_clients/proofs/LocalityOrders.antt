@@ -2,7 +2,7 @@
 use Rattle.std.proofs.Common.{◌≡◌, ◌⊎◌, inl, inr, ℕ, zero, suc, ◌<◌, ◌||◌, Bool, true, false, cond, List, [], ◌∷◌, ◌++◌, Option, Some, None, length, slice_get, arith, refl, sym, ap, ◌∙◌, append_assoc, append-nil}
 use Rattle.std.specs.Str.{bytes_eq}
 use Rattle.std.specs.List.{filter, cons_option}
-use Rattle.std.proofs.lemmas.Bool.{cases_Bool, or_cases}
+use Rattle.std.proofs.lemmas.Bool.{cases_Bool, cases_order, or_cases}
 use Rattle.std.proofs.lemmas.Slice.Eq.{bytes_eq-Decides}
 use Rattle.mencius_base.specs.Command.{is_same_id}
 use Rattle.mencius_base.specs.declared.command.Command.{Command}
@@ -111,21 +111,12 @@ get_before (x ∷ front) back (suc n) less = get_before front back n (omega (ari
 pub once_from_splits : (xs : List CommandId)
     → ((front back : List CommandId) (id : CommandId) → xs ≡ front ++ id ∷ back → has_id front id ≡ false) → IsOnce xs
 once_from_splits xs h n m id e f =
-    elim (places n m) [
-      | inl less ↦ absurd (apart n m id less e f)
-      | inr rest ↦ elim rest [ inl same ↦ same | inr less ↦ absurd (apart m n id less f e) ]
+    elim (cases_order n m) [
+      | inl same ↦ same
+      | inr (inl less) ↦ absurd (apart n m id less e f)
+      | inr (inr less) ↦ absurd (apart m n id less f e)
     ]
   where
-    places : (a b : ℕ) → (a < b) ⊎ ((a ≡ b) ⊎ (b < a))
-    places zero zero = inr (inl refl)
-    places zero (suc b) = inl (omega arith)
-    places (suc a) zero = inr (inr (omega arith))
-    places (suc a) (suc b) =
-        elim (places a b) [
-          | inl less ↦ inl (omega (arith, less))
-          | inr rest ↦ elim rest [ inl same ↦ inr (inl (ap suc same)) | inr less ↦ inr (inr (omega (arith, less))) ]
-        ]
-
     apart : (a b : ℕ) (x : CommandId) → a < b → slice_get xs a ≡ Some x → slice_get xs b ≡ Some x → ⊥
     apart a b x less first second =
         let s = split_place xs b x second in

@@ -26,14 +26,14 @@ pub number_digits : (word : List ℕ) → is_number word ≡ true → list_all i
 number_digits [] e = refl
 number_digits (byte ∷ bytes) e = digits_from_first (byte == 48) byte bytes refl e
 
-number_length : (word : List ℕ) → is_number word ≡ true → 0 < length word
+pub number_length : (word : List ℕ) → is_number word ≡ true → 0 < length word
 number_length [] e = absurd (cc)
 number_length (byte ∷ bytes) e = omega arith
 
 digit_below : (byte : ℕ) → is_ascii_digit byte ≡ true → digit_value byte < 10
 digit_below byte e = grind (arith, nat_tests)
 
-all_digits : (bytes : List ℕ) → list_all is_ascii_digit bytes ≡ true → AllDigits 10 bytes
+pub all_digits : (bytes : List ℕ) → list_all is_ascii_digit bytes ≡ true → AllDigits 10 bytes
 all_digits [] e = tt
 all_digits (byte ∷ bytes) e =
     let parts = and_parts (is_ascii_digit byte) (list_all is_ascii_digit bytes) e in

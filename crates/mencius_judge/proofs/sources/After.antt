@@ -1,8 +1,8 @@
 -- What each observation does to the numbers of lines that a judge keeps.
-use Rattle.std.proofs.Common.{◌≡◌, ◌≢◌, inl, inr, ℕ, ◌+◌, ◌<◌, ◌≤◌, true, false, List, [], ◌∷◌, ◌++◌, Option, Some, None, MatchOption, length, slice_get, arith, refl, sym, subst, ap, ap₂, ◌∙◌, ⊎_elim, length-append, length-take}
-use Rattle.std.proofs.lemmas.Bool.{cases_Bool, cases_eq}
+use Rattle.std.proofs.Common.{◌≡◌, ◌≢◌, inl, inr, ℕ, ◌+◌, ◌<◌, ◌≤◌, List, [], ◌∷◌, ◌++◌, Option, Some, None, MatchOption, length, slice_get, arith, refl, sym, subst, ap, ap₂, ◌∙◌, ⊎_elim, length-append, length-take}
+use Rattle.std.proofs.lemmas.Bool.{cases_eq}
 use Rattle.std.proofs.lemmas.List.{length-map}
-use Rattle.std.specs.BTreeMap.{BTreeMap, Updates, get, is_at}
+use Rattle.std.specs.BTreeMap.{BTreeMap, Updates, get}
 use Rattle.std.specs.Ordering.{nat_cmp}
 use Rattle.mencius_base.specs.declared.command.CommandId.{CommandId}
 use Rattle.mencius_judge.specs.declared.histories.Lead.{Lead}

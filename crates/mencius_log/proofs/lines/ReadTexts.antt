@@ -3,7 +3,7 @@ use Rattle.std.proofs.Common.{◌≡◌, ◌==◌, ◌&&◌, ◌<◌, ◌^◌, �
 use Rattle.std.specs.Prelude.{decimal}
 use Rattle.std.specs.Option.{option_and_then, option_zip}
 use Rattle.std.specs.List.{join_with_byte, list_all}
-use Rattle.std.specs.Char.{digit_value, is_ascii_digit}
+use Rattle.std.specs.Char.{is_ascii_digit}
 use Rattle.std.specs.Str.{bytes_eq, is_utf8}
 use Rattle.std.specs.Str.Parse.{AllDigits, digits_value}
 use Rattle.std.proofs.lemmas.Bool.{and_parts, eqb-true}
@@ -22,7 +22,7 @@ use Rattle.mencius_format.specs.Versions.{may_stand_in}
 use Rattle.mencius_format.specs.Texts.{command_text, id_text}
 use Rattle.mencius_format.specs.ValuesOrFaults.{map_ok, value_or_fault}
 use Rattle.mencius_format.specs.Words.{is_number, is_u32, name_of, number_of, parts, words}
-use Rattle.mencius_format.proofs.NumberWords.{number_digits}
+use Rattle.mencius_format.proofs.NumberWords.{all_digits, number_digits, number_length}
 use Rattle.mencius_format.proofs.OperationWords.{chosen, newest_op_text, newest_op_word}
 use Rattle.mencius_log.specs.declared.observation.Answer.{Answer}
 use Rattle.mencius_log.specs.declared.observation.Answer.TheVariants.{Held, Done, Failed}
@@ -51,19 +51,6 @@ zipped {X} {Y} (Some x) (Some y) z e =
 fits_wide : (n : ℕ) → is_u32 n ≡ true → n < 2 ^ 64
 fits_wide n h = let small : n < 2 ^ 32 = grind (arith, nat_tests, h) in omega (arith, small)
 
-digit_below : (byte : ℕ) → is_ascii_digit byte ≡ true → digit_value byte < 10
-digit_below byte e = grind (arith, nat_tests)
-
-all_digits : (bytes : List ℕ) → list_all is_ascii_digit bytes ≡ true → AllDigits 10 bytes
-all_digits [] e = tt
-all_digits (byte ∷ bytes) e =
-    let both = and_parts (is_ascii_digit byte) (list_all is_ascii_digit bytes) e in
-    (digit_below byte both.0, all_digits bytes both.1)
-
-not_empty : (word : List ℕ) → is_number word ≡ true → 0 < length word
-not_empty [] e = absurd (cc)
-not_empty (byte ∷ bytes) e = omega arith
-
 -- a number that begins with 0 has no other digit
 zero_alone : (word : List ℕ) → is_number word ≡ true → get_or word 0 0 ≡ 48 → length word ≡ 1
 zero_alone [] e is = absurd (cc)
@@ -82,7 +69,7 @@ number_word word m n e same fits = by_test (is_number word) refl e
         let first : digits_value 10 word ≡ m = cc in
         let value : digits_value 10 word ≡ n = first ∙ same in
         sym (decimal-digits_value (numerals_by_value (AllDigits 10) tells_digits) word
-        (all_digits word (number_digits word is)) (not_empty word is) (zero_alone word is)
+        (all_digits word (number_digits word is)) (number_length word is) (zero_alone word is)
         (subst (λ (k : ℕ). k < 2 ^ 64) (sym value) (fits_wide n fits)))
         ∙ ap decimal value
     by_test false is g = absurd (cc)

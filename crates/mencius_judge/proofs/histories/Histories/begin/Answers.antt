@@ -1,10 +1,6 @@
-use Rattle.std.proofs.Common.{None, OnOk, Result, Ok, Err, refl, ap, ◌++◌, ◌∷◌, [], ◌∙◌}
+use Rattle.std.proofs.Common.{None, refl, ap, ◌++◌, ◌∷◌, [], ◌∙◌}
+use Rattle.mencius_judge.proofs.keys.TextMaps.{on_both}
 use Rattle.mencius_judge.proofs.histories.Histories.begin.Goals as goal
-
--- two facts about the value of a result give a third one
-on_both : {X E : Type 0} {P Q R : Type 0} (r : Result X E) → (P → Q → R) → OnOk r P → OnOk r Q → OnOk r R
-on_both (Ok x) f p q = f p q
-on_both (Err e) f p q = p
 
 pub returns-clause-rows : goal.returns-clause-rows
 returns-clause-rows c =

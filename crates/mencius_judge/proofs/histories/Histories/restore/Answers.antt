@@ -1,10 +1,6 @@
-use Rattle.std.proofs.Common.{Some, OnOk, Result, Ok, Err, refl}
+use Rattle.std.proofs.Common.{Some, refl}
+use Rattle.mencius_judge.proofs.keys.TextMaps.{on_both}
 use Rattle.mencius_judge.proofs.histories.Histories.restore.Goals as goal
-
--- two facts about the value of a result give a third one
-on_both : {X E : Type 0} {P Q R : Type 0} (r : Result X E) → (P → Q → R) → OnOk r P → OnOk r Q → OnOk r R
-on_both (Ok x) f p q = f p q
-on_both (Err e) f p q = p
 
 pub returns-clause-some : goal.returns-clause-some
 returns-clause-some c =
