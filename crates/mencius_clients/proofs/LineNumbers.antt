@@ -4,10 +4,11 @@ use Rattle.std.proofs.lemmas.List.{length-append, length-reverse, reverse-append
 use Rattle.mencius_io.specs.declared.fault.IoFault.{IoFault}
 use Rattle.mencius_log.specs.declared.observation.Observation.{Observation}
 use Rattle.mencius_judge.specs.declared.quote.Quote.{Quote}
-use Rattle.mencius_log.specs.Lines.{line_said}
+use Rattle.mencius_log.specs.Lines.{IsInLine, line_said}
 use Rattle.mencius_judge.specs.Log.{Log}
-use Rattle.mencius_judge.specs.LogReader.{AddsLine, IsInLine, Say, bytes_of}
+use Rattle.mencius_judge.specs.LogReader.{AddsLine, Say, bytes_of}
 use Rattle.mencius_judge.specs.Quotes.{NumberedLog, log_of}
+use Rattle.mencius_judge.proofs.lines.QuotedLines.{bytes_from}
 use Rattle.mencius_clients.specs.declared.client_log.ClientLog.{ClientLog}
 use Rattle.mencius_clients.specs.ClientVerdicts.{IsLineAt}
 use Rattle.mencius_clients.specs.ReadLogs.{IsLogOf, IsNumbered, numbers_of}
@@ -112,19 +113,6 @@ said_at (line ∷ lines) numbered say later own log e =
     by_said (Err fault) is adds further = absurd adds
     by_said (Ok None) is adds further = further later (sym adds ∙ e)
     by_said (Ok (Some o)) is adds further = by_later o is later (sym adds ∙ e) further
-
--- ---- and the bytes
-
-bytes_from : (later : List (List ℕ)) (line : List ℕ) (earlier : List (List ℕ)) (rest : List ℕ)
-    → (behind : List ℕ) × (bytes_of (later ++ line ∷ earlier) ++ rest ≡ bytes_of earlier ++ (line ++ 10 ∷ behind))
-bytes_from [] line earlier rest = (
-  rest,
-  append_assoc (bytes_of earlier) (line ++ 10 ∷ []) rest
-      ∙ ap (λ xs. bytes_of earlier ++ xs) (append_assoc line (10 ∷ []) rest),
-)
-bytes_from (x ∷ later) line earlier rest =
-    let r = bytes_from later line earlier ((x ++ 10 ∷ []) ++ rest) in
-    (r.0, append_assoc (bytes_of (later ++ line ∷ earlier)) (x ++ 10 ∷ []) rest ∙ r.1)
 
 -- ---- places from the end
 

@@ -11,9 +11,9 @@ use Rattle.mencius_judge.specs.declared.quote.Quote.{Quote}
 use Rattle.mencius_judge.specs.declared.violation.Violation.{Violation}
 use Rattle.mencius_judge.specs.Judged.{Breaks}
 use Rattle.mencius_judge.specs.Linearization.{IsLinearization}
-use Rattle.mencius_log.specs.Lines.{line_said}
+use Rattle.mencius_log.specs.Lines.{IsInLine, line_said}
 use Rattle.mencius_judge.specs.Log.{Log, command_of, is_failed}
-use Rattle.mencius_judge.specs.LogReader.{IsInLine, Say, bytes_of}
+use Rattle.mencius_judge.specs.LogReader.{Say, bytes_of}
 use Rattle.mencius_judge.specs.Quotes.{NumberedLog, log_of}
 use Rattle.mencius_clients.specs.declared.client_counts.ClientCounts.{ClientCounts}
 use Rattle.mencius_clients.specs.declared.client_verdict.ClientJudgement.{ClientJudgement}

@@ -8,24 +8,14 @@ ghost use Rattle.mencius_judge.specs.Log.{is_failed};
 ghost use Rattle.mencius_model.specs.KeyMap.{is_read};
 ghost use Rattle.mencius_clients.specs.Configurations.{AreReplyLines, HasNote, HasReplyLine, IsAcknowledged, IsIdle, IsUnacknowledged, text_at};
 
-use crate::identities::identity_key;
-use crate::tables::put;
 use crate::texts::{is_done_at, is_text_at, is_without_effect_at};
 use mencius_base::{Command, CommandId, NoMemory, Op};
+use mencius_judge::answers::is_failed;
 use mencius_judge::operations::is_read;
+use mencius_judge::tables::{identity_key, put};
 use mencius_log::{Answer, Observation};
 use std::alloc::Global;
 use std::collections::BTreeMap;
-
-/// Returns whether a reply is `failed`.
-pub fn is_failed(answer: &Answer) -> bool
-    ensures { result ≡ is_failed answer.now }
-{
-    match answer {
-        Answer::Held { .. } | Answer::Done => false,
-        Answer::Failed => true,
-    }
-}
 
 /// Returns whether a reply is right for an operation whose key holds the text with this number.
 pub fn is_right_at(log: &[Observation], held: usize, op: &Op, answer: &Answer) -> bool

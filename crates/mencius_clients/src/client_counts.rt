@@ -6,10 +6,10 @@ ghost use Rattle.mencius_clients.specs.ClientCounts.{AreClientCounts, key_count}
 ghost use Rattle.mencius_clients.specs.Explained.{HasHeard, heard};
 ghost use Rattle.mencius_clients.specs.Keys.{AreKeys, PutsKey};
 
-use crate::tables::put_text;
 use mencius_base::NoMemory;
 use mencius_judge::Judge;
 use mencius_judge::operations::key_of;
+use mencius_judge::tables::put_text;
 use mencius_log::Observation;
 use std::alloc::Global;
 use std::collections::BTreeMap;

@@ -12,11 +12,10 @@ ghost use Rattle.mencius_clients.specs.KeyLines.{HasLines, Tracks, is_about, lin
 ghost use Rattle.mencius_clients.specs.ReadLogs.{IsNumbered, numbers_of};
 
 use crate::client_log::{ClientLog, number_at};
-use crate::identities::identity_key;
-use crate::tables::put;
 use mencius_base::{CommandId, NoMemory};
 use mencius_judge::Quote;
 use mencius_judge::operations::key_of;
+use mencius_judge::tables::{identity_key, put};
 use mencius_log::Observation;
 use std::alloc::Global;
 use std::collections::BTreeMap;

@@ -10,15 +10,15 @@ ghost use Rattle.mencius_log.specs.declared.observation.Observation.{Observation
 ghost use Rattle.mencius_log.specs.declared.observation.Observation.TheVariants.{Reply, Submit};
 ghost use Rattle.mencius_clients.specs.Configurations.{AreReplyLines, IsAnswered, IsCrowded, IsPlaced, submitted_by};
 
-use crate::answers::{is_failed, is_idle};
-use crate::identities::identity_key;
+use crate::answers::is_idle;
 use crate::key_search::KeySearch;
 use crate::outcome::Outcome;
 use crate::steps::Step;
-use crate::tables::{put, put_text};
 use crate::texts::submitted_at;
 use mencius_base::{Command, CommandId, NoMemory};
+use mencius_judge::answers::is_failed;
 use mencius_judge::operations::key_of;
+use mencius_judge::tables::{identity_key, put, put_text};
 use mencius_log::{Answer, Observation};
 use std::alloc::Global;
 use std::collections::BTreeMap;

@@ -36,7 +36,7 @@ impl Counts {
 
 /// Returns the count plus 1, or `NoMemory` if that would exceed the greatest `u64`. No count is known to come near that
 /// number.
-pub(crate) fn one_more(count: u64) -> Result<u64, NoMemory>
+pub fn one_more(count: u64) -> Result<u64, NoMemory>
     ensures { IfOk result (λ more. more ≡ count + 1) }
 {
     count.checked_add(1).ok_or(NoMemory)

@@ -1,13 +1,11 @@
 ghost use Rattle.std.specs.Prelude.{ℕ, ◌≡◌, ◌↔◌, [], ◌∷◌, Some, IsNone, IfOk, OnOk};
-ghost use Rattle.std.specs.BTreeMap.{Updates};
-ghost use Rattle.std.specs.Ordering.{nat_cmp};
 ghost use Rattle.mencius_log.specs.declared.observation.Observation.TheVariants.{Execute, Lookup, Reply, Restore, Settle, Submit, Tell};
 ghost use Rattle.mencius_judge.specs.declared.histories.Next.TheVariants.{Differs, Leads};
 ghost use Rattle.mencius_judge.specs.Log.{Log};
 ghost use Rattle.mencius_judge.specs.Promises.{KeepsAll};
 ghost use Rattle.mencius_judge.specs.Quotes.{NumberedLog, log_of};
 ghost use Rattle.mencius_judge.specs.Rows.{count_of};
-ghost use Rattle.mencius_judge.specs.Tables.{IsNext, floor_of, identity_key};
+ghost use Rattle.mencius_judge.specs.Tables.{IsNext, floor_of};
 
 use crate::answers::copy_of_answer;
 use crate::counts::{Counts, one_more};
@@ -15,6 +13,7 @@ use crate::histories::{Histories, Next};
 use crate::operations::is_same_op;
 use crate::reply_checks::{other_reply, wrong_at_place, wrong_before};
 use crate::settled::{acknowledge, count_settled, first_unsettled, id_at, open_count};
+use crate::tables::{identity_key, put};
 use crate::texts::{copy_of, copy_of_key};
 use crate::timelines::Timelines;
 use crate::violation::Violation;
@@ -22,16 +21,6 @@ use mencius_base::{Command, CommandId, Key, NoMemory, Text};
 use mencius_log::{Answer, Observation};
 use std::alloc::Global;
 use std::collections::BTreeMap;
-
-// The number of different command numbers of a client.
-const NUMBER_COUNT: u64 = 1 << 32;
-
-/// Returns an identity as a single number.
-pub(crate) fn identity_key(id: CommandId) -> u64
-    ensures { result ≡ identity_key id }
-{
-    u64::from(id.client) * NUMBER_COUNT + u64::from(id.number)
-}
 
 /// A submitted command, the number of commands that were acknowledged when it was first submitted, and the number of the
 /// line that first submitted it.
@@ -383,12 +372,4 @@ fn floor_of(floors: &BTreeMap<u64, usize>, reader: u32) -> usize
         Some(count) => *count,
         None => 0,
     }
-}
-
-// Binds a number to a value, or fails with `NoMemory`.
-fn put<V: Drop>(map: &mut BTreeMap<u64, V>, key: u64, value: V) -> Result<(), NoMemory>
-    ensures { OnOk result (Updates nat_cmp map.old map.new key (Some value)) }
-{
-    map.insert(key, value)?;
-    Ok(())
 }

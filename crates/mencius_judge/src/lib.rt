@@ -2,10 +2,11 @@
 //! store has kept its promises so far.
 //!
 //! The judge does not depend on any protocol. The commands that servers executed are its witness, so it does not search
-//! for an order. Each observation costs only a few lookups in maps.
+//! for an order. Each observation costs only a few lookups in maps. The crates above also use the modules `answers`,
+//! `operations` and `tables`.
 #![tactic(auto)]
 
-mod answers;
+pub mod answers;
 mod counts;
 mod histories;
 mod judge;
@@ -17,12 +18,13 @@ mod quote;
 mod quotes;
 mod reply_checks;
 mod settled;
+pub mod tables;
 mod texts;
 mod timeline;
 mod timelines;
 mod violation;
 
-pub use counts::Counts;
+pub use counts::{Counts, one_more};
 pub use judge::Judge;
 pub use log_reader::{Breach, Judgement, LogReader, Verdict, judge_log};
 pub use quote::Quote;

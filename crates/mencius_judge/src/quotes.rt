@@ -14,9 +14,10 @@ ghost use Rattle.mencius_judge.specs.Timelines.{held_by};
 
 use crate::answers::copy_of_answer;
 use crate::histories::{Lead, Row, Snapshot};
-use crate::judge::{FirstReply, Judge, Submission, identity_key};
+use crate::judge::{FirstReply, Judge, Submission};
 use crate::operations::key_of;
 use crate::quote::{Quote, insert_quote};
+use crate::tables::identity_key;
 use crate::violation::Violation;
 use mencius_base::{CommandId, NoMemory, Text};
 use mencius_log::Observation;

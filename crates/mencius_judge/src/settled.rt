@@ -6,7 +6,8 @@ ghost use Rattle.mencius_judge.specs.Log.{is_failed};
 ghost use Rattle.mencius_judge.specs.Tables.{AreSettled, IsNotSettledAt, IsPlaceOf, has_no_place};
 
 use crate::answers::is_failed;
-use crate::judge::{Execution, SettledCommands, identity_key};
+use crate::judge::{Execution, SettledCommands};
+use crate::tables::identity_key;
 use mencius_base::{CommandId, NoMemory};
 use mencius_log::Answer;
 use std::collections::BTreeMap;

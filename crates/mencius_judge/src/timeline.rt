@@ -2,6 +2,7 @@ ghost use Rattle.std.specs.Prelude.{◌≡◌, ◌≢◌, ◌≤◌, ◌++◌, �
 ghost use Rattle.std.specs.BTreeMap.{get_by_text};
 ghost use Rattle.mencius_judge.specs.Timelines.{HasNone, IsBeginning, IsFirstCount, IsFirstPeriod, IsTimeline, AreRising, AllBefore, items_of, periods_of};
 
+use crate::tables::put_text;
 use crate::texts::is_same_text;
 use mencius_base::{NoMemory, Text};
 use std::alloc::Global;
@@ -141,20 +142,4 @@ fn push_period(
     };
     periods.push(period)?;
     put_text(alloc, presences, text, periods)
-}
-
-/// Binds `text` to `value`, or fails with `NoMemory`.
-pub fn put_text<V: Drop>(
-    alloc: Global,
-    map: &mut BTreeMap<String, V>,
-    text: &str,
-    value: V,
-) -> Result<(), NoMemory>
-    ensures own { OnOk result (get_by_text map.new text.now ≡ Some value) }
-    ensures others { OnOk result ((x : List ℕ) → x ≢ text.now
-        → get_by_text map.new x ≡ get_by_text map.old x) }
-{
-    let text = String::from_str(alloc, text)?;
-    map.insert(text, value)?;
-    Ok(())
 }

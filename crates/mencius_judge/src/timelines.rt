@@ -5,8 +5,9 @@ ghost use Rattle.mencius_model.specs.KeyMap.{out};
 ghost use Rattle.mencius_judge.specs.Timelines.{AreTimelines, HasNone, IsBeginning, IsFirstCount, IsTimelineOf, held_by, text_of};
 
 use crate::operations::{key_of, text_after};
+use crate::tables::put_text;
 use crate::texts::{copy_of, is_same_text};
-use crate::timeline::{Timeline, put_text};
+use crate::timeline::Timeline;
 use mencius_base::{Command, NoMemory, Text};
 use std::alloc::Global;
 use std::collections::BTreeMap;

@@ -1,4 +1,5 @@
--- Reading and writing a line of a log.
+-- Cutting a log into lines, and reading and writing a line.
+pub mod CutLines
 pub mod IdentityWords
 pub mod LineWords
 pub mod ReadTexts

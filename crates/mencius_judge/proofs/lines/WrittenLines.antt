@@ -12,7 +12,7 @@ use Rattle.std.proofs.lemmas.List.Folds.{list_all-append}
 use Rattle.std.proofs.lemmas.Str.{IsUtf8-from_ascii, is_utf8-from_IsUtf8}
 use Rattle.std.proofs.lemmas.Str.Ascii.{IsAscii-cons, IsAscii-nil}
 use Rattle.std.proofs.lemmas.Str.Parse.{numerals_by_value, tells_digits, digit_from_value}
-use Rattle.mencius_base.specs.Command.{bad_op, is_key_length, is_name, is_name_byte, is_text_length}
+use Rattle.mencius_base.specs.Command.{bad_op, is_key_length, is_name, is_text_length}
 use Rattle.mencius_base.specs.Limits.{most_text_bytes}
 use Rattle.mencius_base.specs.declared.command.CommandId.{CommandId}
 use Rattle.mencius_base.specs.declared.command.Op.{Op}
@@ -21,7 +21,7 @@ use Rattle.mencius_format.specs.Operations.{op_text}
 use Rattle.mencius_format.specs.Texts.{command_text, id_text, two_texts}
 use Rattle.mencius_format.specs.Words.{words}
 use Rattle.mencius_format.proofs.OperationWords.{both_hold, most_op_bytes, op_stands, op_word}
-use Rattle.mencius_format.proofs.PlainWords.{ArePlain, is_plain}
+use Rattle.mencius_format.proofs.PlainWords.{ArePlain, is_plain, name_plain}
 use Rattle.mencius_format.proofs.TextWords.{commands_read_back}
 use Rattle.mencius_format.proofs.WrittenWords.{Lacks, cut_at, lacks_append, lacks_dot, lacks_space, name_again, named_lacks, number_again, uncut}
 use Rattle.mencius_log.specs.declared.observation.Answer.{Answer}
@@ -29,8 +29,8 @@ use Rattle.mencius_log.specs.declared.observation.Answer.TheVariants.{Held, Done
 use Rattle.mencius_log.specs.declared.observation.Observation.{Observation}
 use Rattle.mencius_log.specs.declared.observation.Observation.TheVariants.{Submit, Execute, Reply, Lookup, Tell, Settle, Restore}
 use Rattle.mencius_judge.specs.declared.quote.Quote.{Quote}
-use Rattle.mencius_log.specs.Lines.{answer_of, is_answer_within, is_passed_over, is_reply_within, line_said, most_line_bytes, observation_of, is_observation_within, reply_answer_of, without_return}
-use Rattle.mencius_judge.specs.LogReader.{AddsLine, IsInLine}
+use Rattle.mencius_log.specs.Lines.{IsInLine, answer_of, is_answer_within, is_passed_over, is_reply_within, line_said, most_line_bytes, observation_of, is_observation_within, reply_answer_of, without_return}
+use Rattle.mencius_judge.specs.LogReader.{AddsLine}
 use Rattle.mencius_log.specs.ObservationLines.{answer_text, held_text, observation_line, observation_text}
 use Rattle.mencius_judge.specs.Written.{IsAnswer, IsIdentity, IsReplySayable, IsSayable, LogsReadBack, ObservationsReadBack}
 
@@ -237,22 +237,6 @@ id_short : (id : CommandId) → IsIdentity id → IsShort 21 (id_text id)
 id_short id h =
     around 10 10 46 (decimal id.client) (decimal id.number) refl (u32_short id.client h.0) (u32_short id.number h.1)
 
-name_byte_shown : (x : ℕ) → is_name_byte x ≡ true → is_shown x ≡ true
-name_byte_shown x h = grind (arith, nat_tests)
-
-name_bytes_shown : (xs : List ℕ) → list_all is_name_byte xs ≡ true → AreShown xs
-name_bytes_shown [] h = refl
-name_bytes_shown (x ∷ xs) h =
-    let parts = and_parts (is_name_byte x) (list_all is_name_byte xs) h in
-    and_from (is_shown x) (list_all is_shown xs) (name_byte_shown x parts.0) (name_bytes_shown xs parts.1)
-
-name_shown : (xs : List ℕ) → is_name xs ≡ true → AreShown xs
-unfolding is_name
-name_shown xs h = name_bytes_shown xs h
-
-name_short : (most : ℕ) (xs : List ℕ) → is_name xs ≡ true → length xs ≤ most → IsShort most xs
-name_short most xs h l = record { shown = name_shown xs h; short = l }
-
 plain_byte_shown : (x : ℕ) → is_plain x ≡ true → is_shown x ≡ true
 plain_byte_shown x h = grind (arith, nat_tests)
 
@@ -261,6 +245,12 @@ plain_shown [] h = refl
 plain_shown (x ∷ xs) h =
     let parts = and_parts (is_plain x) (list_all is_plain xs) h in
     and_from (is_shown x) (list_all is_shown xs) (plain_byte_shown x parts.0) (plain_shown xs parts.1)
+
+name_shown : (xs : List ℕ) → is_name xs ≡ true → AreShown xs
+name_shown xs h = plain_shown xs (name_plain xs h)
+
+name_short : (most : ℕ) (xs : List ℕ) → is_name xs ≡ true → length xs ≤ most → IsShort most xs
+name_short most xs h l = record { shown = name_shown xs h; short = l }
 
 op_short : (o : Op) → bad_op o ≡ None → IsShort most_op_bytes (op_text o)
 op_short o h = let word = op_word o h in record { shown = plain_shown (op_text o) word.plain; short = word.short }
