@@ -23,6 +23,7 @@ use Rattle.mencius_clients.specs.declared.outcome.Outcome.TheVariants as outcome
 use Rattle.mencius_clients.specs.declared.explanation.Explanation.{Explanation}
 use Rattle.mencius_clients.specs.declared.search.Search.{Search}
 use Rattle.mencius_clients.specs.Explained.{HasHeard, IsBroken, IsEnd, IsExplanation, heard}
+use Rattle.mencius_clients.specs.ManyStates.{ComesAfterMany}
 use Rattle.mencius_clients.specs.Searched.{HasSearched, IsAfter}
 
 pub split_log : {A : Type 0} (xs : List A) (n : ℕ) (x : A) → slice_get xs n ≡ Some x → (back : List A) × (xs ≡ take n xs ++ x ∷ back)
@@ -49,19 +50,21 @@ pub get_at : {A : Type 0} (xs : List A) (n : ℕ) (x : A) → n < length xs → 
 get_at xs n x less is = slice_get-get_or xs n x less ∙ ap Some (sym is)
 
 -- the verdict of a search that ends at this line is right
-pub ended_right : (log : List Observation) (line : ℕ) (o : Observation) (u later : Log) (s : Search) (outcome : Outcome)
+pub ended_right : (log : List Observation) (line : ℕ) (o : Observation) (u later : Log) (s : Search) (ended : Outcome)
     (found : Option Explanation) → slice_get log line ≡ Some o → reverse log ≡ later ++ o ∷ u
-    → u ≡ reverse (take line log) → IsEnd outcome line found
-    → IsAfter (reverse log) (o ∷ u) log s outcome → IfSome found (IsExplanation log)
-ended_right log line o u later s Goes found at whole first is h = subst (λ f. IfSome f (IsExplanation log)) (sym is) tt
-ended_right log line o u later s outcome.Unexplained found at whole first is h =
-    subst (λ f. IfSome f (IsExplanation log)) (sym is) h
-ended_right log line o u later s outcome.Waiting found at whole first is h =
-    subst (λ f. IfSome f (IsExplanation log)) (sym is)
+    → u ≡ reverse (take line log) → IsEnd ended line found
+    → IsAfter (reverse log) (o ∷ u) log s ended → (most : ℕ)
+    → (ended ≡ outcome.Configurations → ComesAfterMany u o most) → IfSome found (IsExplanation log most)
+ended_right log line o u later s Goes found at whole first is h most many =
+    subst (λ f. IfSome f (IsExplanation log most)) (sym is) tt
+ended_right log line o u later s outcome.Unexplained found at whole first is h most many =
+    subst (λ f. IfSome f (IsExplanation log most)) (sym is) h
+ended_right log line o u later s outcome.Waiting found at whole first is h most many =
+    subst (λ f. IfSome f (IsExplanation log most)) (sym is)
     record { later = later; o = o; earlier = u; splits = record { whole = whole; there = at; first = first }; many = h }
-ended_right log line o u later s outcome.Configurations found at whole first is h =
-    let same : o ≡ Reply h.0 h.1 = cc (h.3) in
-    subst (λ f. IfSome f (IsExplanation log)) (sym is) (h.0, h.1, at ∙ ap Some same, h.4)
+ended_right log line o u later s outcome.Configurations found at whole first is h most many =
+    subst (λ f. IfSome f (IsExplanation log most)) (sym is)
+    (o, at, subst (λ (v : Log). ComesAfterMany v o most) first (many refl))
 
 pub went_on : (w u : Log) (log : List Observation) (s : Search) (outcome : Outcome) (line : ℕ) (found : Option Explanation)
     → IsEnd outcome line found → found ≡ None → IsAfter w u log s outcome → HasSearched w u log s

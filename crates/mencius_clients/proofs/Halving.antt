@@ -10,8 +10,8 @@ use Rattle.mencius_clients.specs.declared.explanation.Cause.TheVariants.{Waiting
 use Rattle.mencius_clients.specs.declared.explanation.Explanation.{Explanation}
 use Rattle.mencius_clients.specs.declared.explanation.Explanation.TheVariants.{Broken, Undecided}
 use Rattle.mencius_clients.specs.Explained.{IsBroken, IsCause, IsExplanation, IsLinearizable, IsSplitAt}
-use Rattle.mencius_clients.specs.FirstLines.{IsBetween, IsFirstLine, IsLinearizableTo}
-use Rattle.mencius_clients.specs.declared.first_lines.FirstLine.TheVariants.{Found}
+use Rattle.mencius_clients.specs.ManyStates.{ComesAfterMany}
+use Rattle.mencius_clients.specs.FirstLines.{IsBetween, IsFoundLine, IsLinearizableTo}
 
 none_splits : (front back : List CommandId) (id : CommandId) → [] ≡ front ++ id ∷ back → ⊥
 none_splits [] back id e = cc
@@ -55,7 +55,7 @@ high_lowered log low high count h more less lacks = record {
 }
 
 pub first_found : (log : List Observation) (low high : ℕ) → IsBetween log low high → high ≡ low + 1
-    → IsFirstLine log (Found low)
+    → IsFoundLine log low
 first_found log low high h e = (
   let most = h.within in omega (arith, most, e),
   h.has,
@@ -99,20 +99,25 @@ broken_whole log count line v h = record {
   breaks = h.breaks;
 }
 
-pub cause_whole : (log : List Observation) (count : ℕ) (cause : Cause) → IsCause (take count log) cause → IsCause log cause
-cause_whole log count (Waiting line) h = record {
+pub cause_whole : (log : List Observation) (count most : ℕ) (cause : Cause) → IsCause (take count log) most cause
+    → IsCause log most cause
+cause_whole log count most (Waiting line) h = record {
   later = reverse (drop count log) ++ h.later;
   o = h.o;
   earlier = h.earlier;
   splits = splits_whole log count line h.later h.o h.earlier h.splits;
   many = h.many;
 }
-cause_whole log count (Configurations line) h = (h.0, h.1, still_there log count line _ h.2, h.3)
+cause_whole log count most (Configurations line) h = (
+  h.0,
+  still_there log count line h.0 h.1,
+  subst (λ lines. ComesAfterMany (reverse lines) h.0 most) (take_first log count line h.0 h.1) h.2,
+)
 
-pub broken_of : (log : List Observation) (count : ℕ) (e : Explanation) (line : ℕ) (v : Violation) → e ≡ Broken line v
-    → IsExplanation (take count log) e → IsBroken log line v
-broken_of log count e line v is h = broken_whole log count line v (subst (IsExplanation (take count log)) is h)
+pub broken_of : (log : List Observation) (count most : ℕ) (e : Explanation) (line : ℕ) (v : Violation) → e ≡ Broken line v
+    → IsExplanation (take count log) most e → IsBroken log line v
+broken_of log count most e line v is h = broken_whole log count line v (subst (IsExplanation (take count log) most) is h)
 
-pub cause_of : (log : List Observation) (count : ℕ) (e : Explanation) (cause : Cause) → e ≡ Undecided cause
-    → IsExplanation (take count log) e → IsCause log cause
-cause_of log count e cause is h = cause_whole log count cause (subst (IsExplanation (take count log)) is h)
+pub cause_of : (log : List Observation) (count most : ℕ) (e : Explanation) (cause : Cause) → e ≡ Undecided cause
+    → IsExplanation (take count log) most e → IsCause log most cause
+cause_of log count most e cause is h = cause_whole log count most cause (subst (IsExplanation (take count log) most) is h)

@@ -26,7 +26,8 @@ use Rattle.mencius_clients.specs.declared.search.Search.{Search}
 use Rattle.mencius_clients.specs.declared.steps.Step.{Step}
 use Rattle.mencius_clients.specs.declared.timed_command.TimedCommand.{TimedCommand}
 use Rattle.mencius_clients.specs.KeyOrders.{AreSteps, HasKeyOrder, HaveKeyOrders, IsKeyOrder, after_step, gathered, last_step, lines_back, lines_of, step_of, timed_lines}
-use Rattle.mencius_clients.specs.Locality.{IsTimed, ids_of, is_of_key, is_on_key, log_of_key, order_of_key}
+use Rattle.mencius_clients.specs.KeyLogs.{is_of_key, is_on_key, log_of_key, order_of_key}
+use Rattle.mencius_clients.specs.Locality.{IsTimed, ids_of}
 use Rattle.mencius_clients.proofs.KeyOrderRight.{IsOwn, all_own, all_timed, key_linearizes, lines_sorted}
 use Rattle.mencius_clients.proofs.LocalitySorting.{Each, IsSorted, each_all, each_append, each_more, filter_all, filter_ids, filter_none, kept_order, sorted_each, sorted_rising, sorted_sorted}
 use Rattle.mencius_clients.specs.KeyOrders.{sorted}

@@ -18,7 +18,8 @@ use Rattle.mencius_judge.proofs.promises.Logs.{command_known, contains_here, con
 use Rattle.mencius_clients.specs.declared.timed_command.TimedCommand.{TimedCommand}
 use Rattle.mencius_clients.specs.Configurations.{submitted_by}
 use Rattle.mencius_clients.specs.KeyOrders.{IsKeyOrder, timed_lines, timed_one}
-use Rattle.mencius_clients.specs.Locality.{IsTimed, acknowledged_at, ids_of, is_line_of, is_of_key, is_on_key, log_of_key, submitted_at}
+use Rattle.mencius_clients.specs.KeyLogs.{is_line_of, is_of_key, is_on_key, log_of_key}
+use Rattle.mencius_clients.specs.Locality.{IsTimed, acknowledged_at, ids_of, submitted_at}
 use Rattle.mencius_clients.proofs.Lacking.{has_item}
 use Rattle.mencius_clients.proofs.LocalityLogs.{acknowledged_kept, before_kept, command_kept, contains_of_filter, earlier, submitted_early}
 use Rattle.mencius_clients.proofs.LocalityOrders.{split_place}
@@ -50,7 +51,7 @@ submitted_in (o ∷ later) u c =
     let before = submitted_in later u c in
     omega arith
 
-is_submission : (o : Option Observation) (c : Command) → submitted_by o ≡ Some c → o ≡ Some (Submit c)
+pub is_submission : (o : Option Observation) (c : Command) → submitted_by o ≡ Some c → o ≡ Some (Submit c)
 is_submission None c e = absurd (cc)
 is_submission (Some (Submit d)) c e = let same : d ≡ c = cc in ap (λ x. Some (Submit x)) same
 is_submission (Some (Execute s x)) c e = absurd (cc)
@@ -98,7 +99,7 @@ each_id P (c ∷ cs) id h has =
       | inr later ↦ each_id P cs id h.1 later
     ]
 
-has_front : (order front back : List CommandId) (id x : CommandId) → order ≡ front ++ id ∷ back → has_id front x ≡ true
+pub has_front : (order front back : List CommandId) (id x : CommandId) → order ≡ front ++ id ∷ back → has_id front x ≡ true
     → has_id order x ≡ true
 has_front order front back id x e has = ap (λ ids. has_id ids x) e ∙ longer front
     has

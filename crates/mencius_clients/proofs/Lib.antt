@@ -35,3 +35,5 @@ pub mod OrderTrails
 pub mod OrdersFound
 pub mod SoundSteps
 pub mod SearchFound
+pub mod DifferentStates
+pub mod StatesLeft

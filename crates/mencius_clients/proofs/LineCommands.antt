@@ -11,10 +11,9 @@ use Rattle.mencius_judge.specs.Judged.{HasSeenLog}
 use Rattle.mencius_judge.specs.Log.{Log, command_of}
 use Rattle.mencius_judge.specs.Promises.{WereSubmitted}
 use Rattle.mencius_judge.proofs.promises.Logs.{known}
-use Rattle.mencius_clients.specs.declared.first_lines.FirstLine.TheVariants.{Found}
 use Rattle.mencius_clients.specs.ClientVerdicts.{HasCommandAt, IsCommandAt, IsKeyAt, IsReply, command_in}
-use Rattle.mencius_clients.specs.Explained.{HasHeard, IsLinearizable, IsManyAt, IsReplyAt, heard}
-use Rattle.mencius_clients.specs.FirstLines.{IsFirstLine}
+use Rattle.mencius_clients.specs.Explained.{HasHeard, IsLinearizable, IsManyAt, ComesAfterManyAt, heard}
+use Rattle.mencius_clients.specs.FirstLines.{IsFoundLine}
 use Rattle.mencius_clients.proofs.Explaining.{command_heard, part_more, whole_at}
 use Rattle.mencius_clients.proofs.Replied.{is_reply}
 
@@ -49,23 +48,22 @@ some_at (x ∷ xs) zero less = (x, refl)
 some_at (x ∷ xs) (suc n) less = some_at xs n (omega (arith, less))
 
 -- the first line without a linearization
-pub found_reply : (log : List Observation) (line : ℕ) → IsFirstLine log (Found line) → (o : Observation)
+pub found_reply : (log : List Observation) (line : ℕ) → IsFoundLine log line → (o : Observation)
     → slice_get log line ≡ Some o → IsReply o
 found_reply log line h o at =
     is_reply (reverse (take line log)) o h.1
     (λ lin. h.2 (subst IsLinearizable (sym (part_more log line o at)) lin))
 
-pub found_command : (log : List Observation) (line : ℕ) → IsFirstLine log (Found line)
+pub found_command : (log : List Observation) (line : ℕ) → IsFoundLine log line
     → WereSubmitted (heard (reverse log)) → HasCommandAt log line
 found_command log line h submitted =
     let x = some_at log line h.0 in
     reply_command_at log line x.0 x.1 (found_reply log line h x.0 x.1) submitted
 
 -- a line at which a search is given up
-pub replied_command : (log : List Observation) (line : ℕ) → IsReplyAt log line → WereSubmitted (heard (reverse log))
-    → HasCommandAt log line
-replied_command log line h submitted =
-    reply_command_at log line (Reply h.0 h.1) h.2 (h.0, h.1, refl) submitted
+pub states_command : (log : List Observation) (line most : ℕ) → ComesAfterManyAt log line most → HasCommandAt log line
+states_command log line most h =
+    let many = h.2 in (h.0, h.1, many.4, ap (command_in (reverse (take line log))) many.2 ∙ many.5)
 
 pub many_command : (log : List Observation) (line : ℕ) → IsManyAt log line → HasCommandAt log line
 many_command log line h =

@@ -11,7 +11,8 @@ use Rattle.mencius_log.specs.declared.observation.Observation.TheVariants.{Submi
 use Rattle.mencius_judge.specs.Log.{Log, acknowledged, acknowledged_before, command_of, has_id, is_failed}
 use Rattle.mencius_judge.proofs.promises.Identities.{has-append, other_id, same_id_eq}
 use Rattle.mencius_judge.proofs.promises.Logs.{contains_cons, contains_here, contains_later, contains_none, kept_before, other_command}
-use Rattle.mencius_clients.specs.Locality.{acknowledged_at, is_line_of, submitted_at}
+use Rattle.mencius_clients.specs.KeyLogs.{is_line_of}
+use Rattle.mencius_clients.specs.Locality.{acknowledged_at, submitted_at}
 use Rattle.mencius_clients.proofs.Later.{acknowledged_more}
 
 -- ---- lists

@@ -20,7 +20,8 @@ use Rattle.mencius_judge.proofs.promises.Logs.{contains_cons, contains_none, com
 use Rattle.mencius_clients.specs.declared.timed_command.TimedCommand.{TimedCommand}
 use Rattle.mencius_clients.specs.ClientCounts.{has_key}
 use Rattle.mencius_clients.specs.Explained.{IsLinearizable}
-use Rattle.mencius_clients.specs.Locality.{IsLocal, IsTimed, acknowledged_at, ids_of, is_of_key, is_on_key, log_of_key, order_of_key, submitted_at}
+use Rattle.mencius_clients.specs.KeyLogs.{is_of_key, is_on_key, log_of_key, order_of_key}
+use Rattle.mencius_clients.specs.Locality.{IsLocal, IsTimed, acknowledged_at, ids_of, submitted_at}
 use Rattle.mencius_clients.proofs.Lacking.{IsOnce, has_back, has_item, lacks}
 use Rattle.mencius_clients.proofs.LocalityLogs.{before_if_earlier, before_kept, command_dropped, command_kept}
 use Rattle.mencius_clients.proofs.LocalityOrders.{once_splits}

@@ -12,7 +12,7 @@ use Rattle.mencius_judge.specs.Log.{Log, command_of, commands_of, has_id}
 use Rattle.mencius_judge.proofs.observations.OrderSteps.{item_here}
 use Rattle.mencius_judge.proofs.promises.Identities.{place_has, same_id_eq}
 use Rattle.mencius_clients.specs.Configurations.{become}
-use Rattle.mencius_clients.specs.Locality.{is_of_key, is_on_key}
+use Rattle.mencius_clients.specs.KeyLogs.{is_of_key, is_on_key}
 use Rattle.mencius_clients.proofs.Lacking.{IsOnce, lacks}
 use Rattle.mencius_clients.proofs.Values.{value_elsewhere, value_there}
 

@@ -18,7 +18,8 @@ use Rattle.mencius_judge.proofs.observations.OrderSteps.{item_here}
 use Rattle.mencius_judge.proofs.promises.Identities.{has_place, same_id_eq}
 use Rattle.mencius_judge.proofs.promises.Logs.{contains_cons, contains_none}
 use Rattle.mencius_clients.specs.declared.timed_command.TimedCommand.{TimedCommand}
-use Rattle.mencius_clients.specs.Locality.{AreRising, IsTimed, LinearizesByMoments, LinearizesEachKey, acknowledged_at, ids_of, is_line_of, is_of_key, is_on_key, log_of_key, order_of_key, submitted_at}
+use Rattle.mencius_clients.specs.KeyLogs.{is_line_of, is_of_key, is_on_key, log_of_key, order_of_key}
+use Rattle.mencius_clients.specs.Locality.{AreRising, IsTimed, LinearizesByMoments, LinearizesEachKey, acknowledged_at, ids_of, submitted_at}
 use Rattle.mencius_clients.proofs.Lacking.{has_either, has_item}
 use Rattle.mencius_clients.proofs.Later.{acknowledged_found}
 use Rattle.mencius_clients.proofs.LocalityLogs.{IsEarlier, acknowledged_kept, before_kept, command_kept, contains_filter, contains_of_filter, earlier, keep}

@@ -22,10 +22,13 @@ use Rattle.mencius_clients.specs.declared.steps.Step.{Step}
 use Rattle.mencius_clients.specs.Configurations.{IsAcknowledged, IsOneOf, IsPlaced, IsUnacknowledged, IsWaitingAt, command_at, has_slot, submitted_by, text_at, waiting}
 use Rattle.mencius_clients.specs.KeyOrders.{AreSteps, HasKeyOrder, HaveKeyOrders, IsKeyOrder, last_step}
 use Rattle.mencius_clients.specs.OrdersSoFar.{AreSlots, AreWithin, HasFound, HaveOrdersSoFar, IsFoundBy, IsLongerTrail, IsOrderSoFar, IsSoundlyAnswered}
+use Rattle.mencius_clients.specs.ManyStates.{HasManyStates}
 use Rattle.mencius_clients.specs.Reached.{AreWaiting}
+use Rattle.mencius_clients.specs.States.{ReachMany}
 use Rattle.mencius_clients.specs.Searched.{configurations_of, slots_of}
 use Rattle.mencius_clients.proofs.Later.{acknowledged_either, command_later, contains_reverse}
-use Rattle.mencius_clients.proofs.OrderTrails.{all_pass, all_settled, all_wait, key_order, steps_later}
+use Rattle.mencius_clients.proofs.StatesLeft.{states_left}
+use Rattle.mencius_clients.proofs.OrderTrails.{all_pass, all_reachable, all_settled, all_wait, key_order, steps_later}
 
 -- the slots of a search that keeps two facts more: the lines of the slots were taken, and a waiting command that is never
 -- acknowledged has no reply
@@ -189,6 +192,20 @@ module _ (log : List Observation) (key : List ℕ) where
 
     within : AreWithin (configurations_of old) trail
     within c one = let r = h.orders c one in number_within trail c.trail r.0 r.1
+
+    -- many configurations with different states follow
+    pub line_many : ((y : CommandId) → has_id (acknowledged u) y ≡ true → is_some (command_of u y) ≡ true) → (most : ℕ)
+        → (AreWithin (configurations_of old) trail → ReachMany log (slots_of old) more (configurations_of old) most)
+        → HasManyStates u key most
+    line_many submitted most reach =
+        let many = reach within in
+        states_left log u (later ++ Reply id x ∷ []) part key (waiting log (slots_of old)) submitted most many.some many.many
+        many.rising
+        (λ d one.
+        let r = all_reachable log key one_reply u (later ++ Reply id x ∷ []) part (slots_of old) more slots
+        (configurations_of old) d
+        (λ c there. let o = h.orders c there in (o.0, steps_later trail more c.trail o.0 longer o.1, o.2))
+        (many.reached d one) in (reverse r.0, r.2))
 
     pub line_replies : IsSoundlyAnswered log id (slots_of old) (configurations_of old) (slots_of new) (configurations_of new) trail more
         → IsFoundBy log (Reply id x ∷ u) key more new

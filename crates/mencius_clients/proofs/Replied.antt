@@ -36,7 +36,7 @@ has_middle : (front back : List CommandId) (id : CommandId) → has_id (front ++
 has_middle [] back id = has_here id back
 has_middle (x ∷ front) back id = has_later x (front ++ id ∷ back) id (has_middle front back id)
 
-commands_alike : (v w : Log) (ids : List CommandId)
+pub commands_alike : (v w : Log) (ids : List CommandId)
     → ((id : CommandId) → has_id ids id ≡ true → command_of v id ≡ command_of w id) → commands_of v ids ≡ commands_of w ids
 commands_alike v w [] same = refl
 commands_alike v w (id ∷ ids) same =

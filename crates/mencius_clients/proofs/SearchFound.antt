@@ -24,11 +24,13 @@ use Rattle.mencius_clients.specs.declared.outcome.Outcome.TheVariants.{Goes}
 use Rattle.mencius_clients.specs.declared.outcome.Outcome.TheVariants as outcome
 use Rattle.mencius_clients.specs.Explained.{HasHeard, IsEnd, heard}
 use Rattle.mencius_clients.proofs.Explaining.{reply_still}
-use Rattle.mencius_clients.specs.OrdersSoFar.{HasFound, IsFoundBy, IsLongerTrail, IsSoundlyAnswered}
+use Rattle.mencius_clients.specs.ManyStates.{ComesAfterMany}
+use Rattle.mencius_clients.specs.OrdersSoFar.{AreWithin, HasFound, IsFoundBy, IsLongerTrail, IsSoundlyAnswered}
+use Rattle.mencius_clients.specs.States.{ReachMany}
 use Rattle.mencius_clients.specs.Reached.{AreWaiting}
-use Rattle.mencius_clients.specs.Searched.{configurations_of, slots_of}
+use Rattle.mencius_clients.specs.Searched.{HasSearched, configurations_of, slots_of}
 use Rattle.mencius_clients.proofs.Later.{acknowledged_either, command_later}
-use Rattle.mencius_clients.proofs.OrdersFound.{none_found, line_calls, line_passes, line_replies}
+use Rattle.mencius_clients.proofs.OrdersFound.{none_found, line_calls, line_many, line_passes, line_replies}
 
 -- a line that acknowledges no further command
 pub search_passes : (log : List Observation) (u : Log) (o : Observation) (s n : Search)
@@ -101,6 +103,28 @@ search_replies log u later id x s n command one_reply counts whole is waits long
         let at : command_of (reverse log) id ≡ Some c = ap (command_of (reverse log)) same ∙ there in
         let one : c ≡ command = cc (at, first) in
         ap (λ (d : Command). key_of d.op) one
+
+-- a search is given up at such a reply
+pub search_many : (log : List Observation) (u later : Log) (id : CommandId) (x : Answer) (s n : Search)
+    (command : Command)
+    → ((y : CommandId) (a b : Answer) → Contains (reverse log) (Reply y a) → Contains (reverse log) (Reply y b) → a ≡ b)
+    → is_failed x ≡ false → reverse log ≡ later ++ Reply id x ∷ u → command_of u id ≡ Some command
+    → HasSearched (reverse log) u log s → IsLongerTrail s.trail.items n.trail.items → (most : ℕ)
+    → (AreWithin (configurations_of (get_by_text s.by_key (key_of command.op))) s.trail.items
+    → ReachMany log (slots_of (get_by_text s.by_key (key_of command.op))) n.trail.items
+    (configurations_of (get_by_text s.by_key (key_of command.op))) most)
+    → HasFound log u s → ComesAfterMany u (Reply id x) most
+search_many log u later id x s n command one_reply counts whole is searched longer most reach h =
+    let key = key_of command.op in (
+      id,
+      x,
+      refl,
+      counts,
+      command,
+      is,
+      line_many log key one_reply u later id x counts whole (get_by_text s.by_key key) (get_by_text n.by_key key)
+          s.trail.items n.trail.items longer (searched.keys key).waits command is refl (h key) searched.submitted most reach,
+    )
 
 -- before the first line
 pub nothing_found : (log : List Observation) (s : Search) → ((key : List ℕ) → get_by_text s.by_key key ≡ None)

@@ -6,8 +6,8 @@ use Rattle.mencius_log.specs.declared.observation.Observation.{Observation}
 use Rattle.mencius_clients.specs.declared.configuration.Configuration.{Configuration}
 use Rattle.mencius_clients.specs.declared.slot_set.SlotSet.{SlotSet}
 use Rattle.mencius_clients.specs.declared.steps.Step.{Step}
-use Rattle.mencius_clients.specs.Configurations.{AreRead, AreSettled, Calls, HasLess, HasRead, IsLess, IsLonger, IsOneOf, IsRead, IsReadOn, has_slot, submitted_by, text_at, waiting}
-use Rattle.mencius_clients.specs.OrdersSoFar.{AreReachable, AreSoundlySettled, AreWithin, Follows, IsLongerTrail, IsReachable, IsSoundEffect, IsSoundRead, IsSoundStep, IsSoundlyFreed, numbered, trail_with}
+use Rattle.mencius_clients.specs.Configurations.{AreRead, Calls, HasLess, HasRead, IsLess, IsLonger, IsOneOf, IsRead, IsReadOn, has_slot, submitted_by, text_at, waiting}
+use Rattle.mencius_clients.specs.OrdersSoFar.{AreReachable, AreSoundlySettled, AreWithin, Follows, IsLongerTrail, IsReachable, IsSoundEffect, IsSoundStep, IsSoundlyFreed, numbered, trail_with}
 use Rattle.mencius_clients.proofs.Lacking.{get_front}
 
 pub trail_same : (trail : List Step) → IsLongerTrail trail trail
@@ -23,13 +23,13 @@ last_there : {A : Type 0} (xs : List A) (y : A) → slice_get (xs ++ y ∷ []) (
 last_there [] y = refl
 last_there (z ∷ xs) y = last_there xs y
 
-get_within : {A : Type 0} (xs : List A) (n : ℕ) (y : A) → slice_get xs n ≡ Some y → n < length xs
+pub get_within : {A : Type 0} (xs : List A) (n : ℕ) (y : A) → slice_get xs n ≡ Some y → n < length xs
 get_within [] n y e = absurd (cc)
 get_within (z ∷ xs) zero y e = omega arith
 get_within (z ∷ xs) (suc n) y e = let less = get_within xs n y e in omega arith
 
 -- the last item of a longer list, or an item of the list
-last_or : {A : Type 0} (xs : List A) (y : A) (n : ℕ) (x : A) → slice_get (xs ++ y ∷ []) n ≡ Some x
+pub last_or : {A : Type 0} (xs : List A) (y : A) (n : ℕ) (x : A) → slice_get (xs ++ y ∷ []) n ≡ Some x
     → (slice_get xs n ≡ Some x) ⊎ ((n ≡ length xs) × (x ≡ y))
 last_or [] y zero x e = inr (refl, cc)
 last_or [] y (suc n) x e = absurd (cc)

@@ -5,7 +5,6 @@ use Rattle.std.proofs.lemmas.Option.{slice_get_within}
 use Rattle.mencius_base.specs.declared.command.CommandId.{CommandId}
 use Rattle.mencius_log.specs.declared.observation.Answer.{Answer}
 use Rattle.mencius_log.specs.declared.observation.Observation.{Observation}
-use Rattle.mencius_log.specs.declared.observation.Observation.TheVariants.{Reply}
 use Rattle.mencius_judge.specs.declared.violation.Violation.{Violation}
 use Rattle.mencius_judge.specs.Judged.{Breaks}
 use Rattle.mencius_judge.specs.Linearization.{IsLinearization}
@@ -16,13 +15,13 @@ use Rattle.mencius_clients.specs.declared.client_counts.ClientCounts.{ClientCoun
 use Rattle.mencius_clients.specs.declared.client_log.ClientLog.{ClientLog}
 use Rattle.mencius_clients.specs.declared.client_verdict.GiveUp.{GiveUp}
 use Rattle.mencius_clients.specs.declared.client_verdict.GiveUp.TheVariants.{Waiting, Configurations}
-use Rattle.mencius_clients.specs.declared.first_lines.FirstLine.TheVariants.{Found}
 use Rattle.mencius_clients.specs.ClientCounts.{AreClientCounts}
 use Rattle.mencius_clients.specs.ClientVerdicts.{HasCommandAt, IsBrokenAt, IsFirstWithout, IsGivenUp, IsKeyAt, IsLinearizedBy, IsOfKey, IsUndecidedAt, IsUnjudged}
-use Rattle.mencius_clients.specs.Explained.{AreManyWaiting, IsBroken, IsLinearizable, IsManyAt, IsReplyAt, heard, most_waiting}
-use Rattle.mencius_clients.specs.FirstLines.{IsFirstLine}
+use Rattle.mencius_clients.specs.Explained.{AreManyWaiting, IsBroken, IsLinearizable, ComesAfterManyAt, IsManyAt, heard, most_waiting}
+use Rattle.mencius_clients.specs.FirstLines.{IsFoundLine}
 use Rattle.mencius_clients.specs.FittingAnswers.{Fits, about_key}
 use Rattle.mencius_clients.specs.KeyLines.{lines_about}
+use Rattle.mencius_clients.specs.ManyStates.{ComesAfterMany}
 use Rattle.mencius_clients.specs.ReadLogs.{IsLogOf, IsNumbered, numbers_of}
 use Rattle.mencius_clients.proofs.Explaining.{part_more}
 use Rattle.mencius_clients.proofs.LineCommands.{found_reply, some_at}
@@ -78,7 +77,7 @@ broken_right log line v number same h here bytes is =
     }
 
 pub first_right : (log : ClientLog) (line : ℕ) (number : ℕ) (key : List ℕ) → IsNumbered log
-    → IsFirstLine log.observations.items (Found line) → IsKeyAt log.observations.items line key
+    → IsFoundLine log.observations.items line → IsKeyAt log.observations.items line key
     → slice_get log.numbers.items line ≡ Some number → (quotes : List Quote)
     → ((n : NumberedLog) → log_of n ≡ reverse (take (line + 1) log.observations.items)
     → numbers_of n ≡ reverse (take (line + 1) log.numbers.items) → quotes ≡ reverse (lines_about key n))
@@ -129,8 +128,8 @@ many_given_up log line h most o at =
     ap (λ x. x ∷ h.earlier) same ∙ ap (λ w. o ∷ w) h.splits.first in
     (refl, subst AreManyWaiting lines h.many)
 
-pub replied_given_up : (log : List Observation) (line : ℕ) → IsReplyAt log line → (most : ℕ) (o : Observation)
+pub states_given_up : (log : List Observation) (line most : ℕ) → ComesAfterManyAt log line most → (o : Observation)
     → slice_get log line ≡ Some o → IsGivenUp (reverse (take line log)) o most (Configurations most)
-replied_given_up log line h most o at =
-    let same : o ≡ Reply h.0 h.1 = cc (at, h.2) in
-    (refl, (h.0, h.1, same, h.3))
+states_given_up log line most h o at =
+    let same : h.0 ≡ o = cc (at, h.1) in
+    (refl, subst (λ (x : Observation). ComesAfterMany (reverse (take line log)) x most) same h.2)

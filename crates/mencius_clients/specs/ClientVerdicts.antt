@@ -1,5 +1,5 @@
 -- The verdict on the submissions and replies of a log.
-use Rattle.std.specs.Prelude.{ℕ, ◌≡◌, ◌+◌, ◌<◌, List, ◌∷◌, ◌++◌, Option, Some, None, IfSome, Ok, false, length, reverse, slice_get, string_bytes, take}
+use Rattle.std.specs.Prelude.{ℕ, ◌≡◌, ◌+◌, ◌<◌, List, ◌∷◌, ◌++◌, Option, Some, None, IfSome, Ok, length, reverse, slice_get, string_bytes, take}
 use Rattle.std.specs.List.{All}
 use Rattle.mencius_base.specs.declared.command.Command.{Command}
 use Rattle.mencius_base.specs.declared.command.CommandId.{CommandId}
@@ -12,7 +12,7 @@ use Rattle.mencius_judge.specs.declared.violation.Violation.{Violation}
 use Rattle.mencius_judge.specs.Judged.{Breaks}
 use Rattle.mencius_judge.specs.Linearization.{IsLinearization}
 use Rattle.mencius_log.specs.Lines.{IsInLine, line_said}
-use Rattle.mencius_judge.specs.Log.{Log, command_of, is_failed}
+use Rattle.mencius_judge.specs.Log.{Log, command_of}
 use Rattle.mencius_judge.specs.LogReader.{Say, bytes_of}
 use Rattle.mencius_judge.specs.Quotes.{NumberedLog, log_of}
 use Rattle.mencius_clients.specs.declared.client_counts.ClientCounts.{ClientCounts}
@@ -25,6 +25,7 @@ use Rattle.mencius_clients.specs.ClientCounts.{AreClientCounts}
 use Rattle.mencius_clients.specs.Explained.{AreManyWaiting, IsLinearizable, heard, most_waiting}
 use Rattle.mencius_clients.specs.FittingAnswers.{Fits, about_key}
 use Rattle.mencius_clients.specs.KeyLines.{lines_about}
+use Rattle.mencius_clients.specs.ManyStates.{ComesAfterMany}
 use Rattle.mencius_clients.specs.ReadLogs.{IsLogOf}
 
 -- ---- lines
@@ -120,8 +121,7 @@ pub record IsBrokenAt (bytes : List ℕ) (number : ℕ) (violation : Violation) 
 -- the reason why the search was given up at an observation after the log
 abbrev pub IsGivenUp : Log → Observation → ℕ → GiveUp → Type 0
 IsGivenUp w o most (Waiting count) = (count ≡ most_waiting + 1) × AreManyWaiting (o ∷ w)
-IsGivenUp w o most (Configurations limit) =
-    (limit ≡ most) × ((id : CommandId) × (x : Answer) × (o ≡ Reply id x) × (is_failed x ≡ false))
+IsGivenUp w o most (Configurations limit) = (limit ≡ most) × ComesAfterMany w o most
 
 -- the search was given up for this reason at the line with this number, which is about a command of this key
 pub record IsUndecidedAt (bytes : List ℕ) (most number : ℕ) (key : List ℕ) (cause : GiveUp) : Type 0 where

@@ -4,13 +4,12 @@ use Rattle.mencius_base.specs.declared.command.Command.{Command}
 use Rattle.mencius_base.specs.declared.command.CommandId.{CommandId}
 use Rattle.mencius_model.specs.KeyMap.{key_of}
 use Rattle.mencius_judge.specs.declared.judge.Judge.{Judge}
-use Rattle.mencius_log.specs.declared.observation.Answer.{Answer}
 use Rattle.mencius_log.specs.declared.observation.Observation.{Observation}
 use Rattle.mencius_log.specs.declared.observation.Observation.TheVariants.{Submit, Execute, Reply, Lookup, Tell, Settle, Restore}
 use Rattle.mencius_judge.specs.declared.violation.Violation.{Violation}
 use Rattle.mencius_judge.specs.Judged.{Breaks, HasSeen}
 use Rattle.mencius_judge.specs.Linearization.{IsLinearization}
-use Rattle.mencius_judge.specs.Log.{Log, acknowledged, command_of, has_id, is_failed}
+use Rattle.mencius_judge.specs.Log.{Log, acknowledged, command_of, has_id}
 use Rattle.mencius_judge.specs.Quotes.{NumberedLog, log_of}
 use Rattle.mencius_clients.specs.declared.explanation.Cause.{Cause}
 use Rattle.mencius_clients.specs.declared.explanation.Cause.TheVariants.{Waiting, Configurations}
@@ -21,6 +20,7 @@ use Rattle.mencius_clients.specs.declared.heard.Heard.TheVariants as hearing
 use Rattle.mencius_clients.specs.declared.outcome.Outcome.{Outcome}
 use Rattle.mencius_clients.specs.declared.outcome.Outcome.TheVariants.{Goes}
 use Rattle.mencius_clients.specs.declared.outcome.Outcome.TheVariants as outcome
+use Rattle.mencius_clients.specs.ManyStates.{ComesAfterMany}
 
 -- some order is a linearization of the log
 abbrev pub IsLinearizable : Log → Type 0
@@ -83,20 +83,20 @@ pub record IsManyAt (log : List Observation) (line : ℕ) : Type 0 where
   pub splits : IsSplitAt log line later o earlier
   pub many : AreManyWaiting (o ∷ earlier)
 
--- the line is a reply other than `failed`
-abbrev pub IsReplyAt : List Observation → ℕ → Type 0
-IsReplyAt log line =
-    (id : CommandId) × (x : Answer) × (slice_get log line ≡ Some (Reply id x)) × (is_failed x ≡ false)
+-- the line is a reply. The lines before it may have left many different states of a key behind
+abbrev pub ComesAfterManyAt : List Observation → ℕ → ℕ → Type 0
+ComesAfterManyAt log line most =
+    (o : Observation) × (slice_get log line ≡ Some o) × ComesAfterMany (reverse (take line log)) o most
 
 -- the judge has seen the submissions and replies of the log, or one of them breaks a promise
 abbrev pub IsHeard : List Observation → Heard → Type 0
 IsHeard log (hearing.Kept judge) = HasHeard judge (heard (reverse log))
 IsHeard log (hearing.Broken fault) = IsBroken log fault.line fault.violation
 
--- what is true if the search was given up for this reason
-abbrev pub IsCause : List Observation → Cause → Type 0
-IsCause log (Waiting line) = IsManyAt log line
-IsCause log (Configurations line) = IsReplyAt log line
+-- what is true if the search was given up for this reason. Its limit is `most`
+abbrev pub IsCause : List Observation → ℕ → Cause → Type 0
+IsCause log most (Waiting line) = IsManyAt log line
+IsCause log most (Configurations line) = ComesAfterManyAt log line most
 
 -- the verdict of a search with this outcome at this line. A search that goes on has none
 abbrev pub IsEnd : Outcome → ℕ → Option Explanation → Type 0
@@ -105,9 +105,9 @@ IsEnd outcome.Unexplained line found = found ≡ Some (Unexplained line)
 IsEnd outcome.Waiting line found = found ≡ Some (Undecided (Waiting line))
 IsEnd outcome.Configurations line found = found ≡ Some (Undecided (Configurations line))
 
--- the explanation of the log is right
-abbrev pub IsExplanation : List Observation → Explanation → Type 0
-IsExplanation log (Explained order) = IsLinearization (reverse log) order.items
-IsExplanation log (Unexplained line) = IsLinearizable (reverse log) → ⊥
-IsExplanation log (Broken line violation) = IsBroken log line violation
-IsExplanation log (Undecided cause) = IsCause log cause
+-- the explanation of the log, by a search with this limit, is right
+abbrev pub IsExplanation : List Observation → ℕ → Explanation → Type 0
+IsExplanation log most (Explained order) = IsLinearization (reverse log) order.items
+IsExplanation log most (Unexplained line) = IsLinearizable (reverse log) → ⊥
+IsExplanation log most (Broken line violation) = IsBroken log line violation
+IsExplanation log most (Undecided cause) = IsCause log most cause

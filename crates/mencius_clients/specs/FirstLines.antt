@@ -11,12 +11,12 @@ use Rattle.mencius_clients.specs.Explained.{IsBroken, IsCause, IsLinearizable}
 abbrev pub IsLinearizableTo : List Observation → ℕ → Type 0
 IsLinearizableTo log count = IsLinearizable (reverse (take count log))
 
--- what is true of the first `count` lines with this verdict
-abbrev pub IsVerdictOn : List Observation → ℕ → Verdict → Type 0
-IsVerdictOn log count verdict.Has = IsLinearizableTo log count
-IsVerdictOn log count verdict.Lacks = IsLinearizableTo log count → ⊥
-IsVerdictOn log count (verdict.Broken line violation) = IsBroken log line violation
-IsVerdictOn log count (verdict.Undecided cause) = IsCause log cause
+-- what is true of the first `count` lines with this verdict of a search with the limit `most`
+abbrev pub IsVerdictOn : List Observation → ℕ → ℕ → Verdict → Type 0
+IsVerdictOn log most count verdict.Has = IsLinearizableTo log count
+IsVerdictOn log most count verdict.Lacks = IsLinearizableTo log count → ⊥
+IsVerdictOn log most count (verdict.Broken line violation) = IsBroken log line violation
+IsVerdictOn log most count (verdict.Undecided cause) = IsCause log most cause
 
 -- the first `low` lines have a linearization, and the first `high` lines have none
 pub record IsBetween (log : List Observation) (low high : ℕ) : Type 0 where
@@ -25,10 +25,13 @@ pub record IsBetween (log : List Observation) (low high : ℕ) : Type 0 where
   pub has : IsLinearizableTo log low
   pub lacks : IsLinearizableTo log high → ⊥
 
--- what is true of the log with this first line. If it was found, the lines before it have a linearization, and with it
--- they have none
-abbrev pub IsFirstLine : List Observation → FirstLine → Type 0
-IsFirstLine log (Found line) =
+-- the lines before this one have a linearization, and with it they have none
+abbrev pub IsFoundLine : List Observation → ℕ → Type 0
+IsFoundLine log line =
     (line < length log) × IsLinearizableTo log line × (IsLinearizableTo log (line + 1) → ⊥)
-IsFirstLine log (Broken line violation) = IsBroken log line violation
-IsFirstLine log (Undecided cause) = IsCause log cause
+
+-- what is true of the log with this first line, which a search with the limit `most` found
+abbrev pub IsFirstLine : List Observation → ℕ → FirstLine → Type 0
+IsFirstLine log most (Found line) = IsFoundLine log line
+IsFirstLine log most (Broken line violation) = IsBroken log line violation
+IsFirstLine log most (Undecided cause) = IsCause log most cause

@@ -1,6 +1,9 @@
 pub mod Configurations
 pub mod Reached
 pub mod Searched
+pub mod KeyLogs
+pub mod ManyStates
+pub mod States
 pub mod Explained
 pub mod FirstLines
 pub mod ReadLogs

@@ -4,8 +4,7 @@ ghost use Rattle.std.specs.Prelude.{◌≡◌, ◌≤◌, ◌+◌, ◌<◌, ℕ,
 ghost use Rattle.mencius_io.specs.Streams.{TakesAtMost, most_bytes, most_failed_calls};
 ghost use Rattle.mencius_judge.specs.Promises.{WereSubmitted};
 ghost use Rattle.mencius_log.specs.declared.observation.Observation.{Observation};
-ghost use Rattle.mencius_clients.specs.declared.first_lines.FirstLine.TheVariants.{Found};
-ghost use Rattle.mencius_clients.specs.FirstLines.{IsFirstLine};
+ghost use Rattle.mencius_clients.specs.FirstLines.{IsFoundLine};
 ghost use Rattle.mencius_clients.specs.ClientVerdicts.{HasCommandAt, IsClientJudgement, IsGivenUp, IsVerdictFor};
 ghost use Rattle.mencius_clients.specs.Explained.{HasHeard, IsBroken, IsCause, IsLinearizable, heard};
 ghost use Rattle.mencius_clients.specs.ReadLogs.{IsLogOf, IsNumbered, IsReadFailure};
@@ -114,7 +113,7 @@ fn first_without(
 ) -> Result<ClientVerdict, NoMemory>
     requires numbered { IsNumbered log.now }
     requires submitted { WereSubmitted (heard (reverse log.now.observations.items)) }
-    requires first { IsFirstLine log.now.observations.items (Found line) }
+    requires first { IsFoundLine log.now.observations.items line }
     ensures { IfOk result (λ verdict. (bytes : List ℕ) (most : ℕ) → IsLogOf bytes log.now
         → IsVerdictFor bytes most verdict) }
 {
@@ -148,7 +147,7 @@ fn broken(log: &ClientLog, line: usize, violation: Violation) -> ClientVerdict
 }
 
 // Returns the verdict after a search that was given up for this reason.
-#[tactic(auto, using(crate::proofs::LineCommands::many_command, crate::proofs::LineCommands::replied_command, crate::proofs::Verdicts::many_given_up, crate::proofs::Verdicts::replied_given_up))]
+#[tactic(auto, using(crate::proofs::LineCommands::many_command, crate::proofs::LineCommands::states_command, crate::proofs::Verdicts::many_given_up, crate::proofs::Verdicts::states_given_up))]
 fn undecided(
     alloc: Global,
     log: &ClientLog,
@@ -157,7 +156,7 @@ fn undecided(
 ) -> Result<ClientVerdict, NoMemory>
     requires numbered { IsNumbered log.now }
     requires submitted { WereSubmitted (heard (reverse log.now.observations.items)) }
-    requires cause { IsCause log.now.observations.items cause }
+    requires cause { IsCause log.now.observations.items most cause }
     ensures { IfOk result (λ verdict. (bytes : List ℕ) → IsLogOf bytes log.now → IsVerdictFor bytes most verdict) }
 {
     match cause {

@@ -45,7 +45,7 @@ pub enum Explanation {
 /// given up if more than 4,096 commands of one key wait for their replies at once, or if a reply makes `limit`
 /// configurations of its key or more.
 pub fn explain(alloc: Global, log: &[Observation], limit: usize) -> Result<Explanation, NoMemory>
-    ensures { IfOk result (IsExplanation log.now) }
+    ensures { IfOk result (IsExplanation log.now limit) }
 {
     match hear(alloc, log)? {
         Heard::Broken { fault } => Ok(Explanation::Broken {
@@ -64,7 +64,7 @@ pub fn explain_heard(
     log: &[Observation],
     limit: usize,
 ) -> Result<Explanation, NoMemory>
-    ensures { IfOk result (λ found. HasHeard _judge.now (heard (reverse log.now)) → IsExplanation log.now found) }
+    ensures { IfOk result (λ found. HasHeard _judge.now (heard (reverse log.now)) → IsExplanation log.now limit found) }
 {
     let replies = reply_lines(alloc, log)?;
     let mut search = Search::new(alloc);
@@ -84,7 +84,8 @@ fn search_all(
 ) -> Result<Option<Explanation>, NoMemory>
     requires { AreReplyLines log.now replies.now (length log.now) }
     ensures explained { IfOk result (λ found. HasSearched (reverse log.now) [] log.now search.old
-        → IfSome found (IsExplanation log.now)) }
+        → AreOneReply (reverse log.now) → HasFound log.now [] search.old
+        → IfSome found (IsExplanation log.now limit)) }
     ensures searched { IfOk result (λ found. found ≡ None → HasSearched (reverse log.now) [] log.now search.old
         → HasSearched (reverse log.now) (reverse log.now) log.now search.new) }
     ensures orders { IfOk result (λ found. found ≡ None → HasSearched (reverse log.now) [] log.now search.old

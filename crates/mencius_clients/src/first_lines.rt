@@ -39,7 +39,7 @@ pub fn first_line(
     hint: usize,
 ) -> Result<FirstLine, NoMemory>
     requires { IsLinearizable (reverse log.now) → ⊥ }
-    ensures { IfOk result (IsFirstLine log.now) }
+    ensures { IfOk result (IsFirstLine log.now limit) }
 {
     let mut low = 0;
     let mut high = log.len();
@@ -81,7 +81,7 @@ fn verdict_on(
     limit: usize,
 ) -> Result<Verdict, NoMemory>
     requires { count ≤ length log.now }
-    ensures { IfOk result (IsVerdictOn log.now count) }
+    ensures { IfOk result (IsVerdictOn log.now limit count) }
 {
     match explain(alloc, &log[..count], limit)? {
         Explanation::Explained { .. } => Ok(Verdict::Has),

@@ -24,8 +24,10 @@ pub struct KeySearch {
 
 impl KeySearch {
     ghost use Rattle.mencius_clients.specs.Configurations.{AreReplyLines, IsAnswered, IsCrowded, IsPlaced, no_slots};
-    ghost use Rattle.mencius_clients.specs.OrdersSoFar.{IsLongerTrail, IsSoundlyAnswered};
+    ghost use Rattle.mencius_clients.specs.OrdersSoFar.{AreWithin, IsLongerTrail, IsSoundlyAnswered};
+    ghost use Rattle.mencius_clients.specs.States.{ReachMany};
     ghost use Rattle.mencius_clients.specs.declared.outcome.Outcome.TheVariants.{Goes};
+    ghost use Rattle.mencius_clients.specs.declared.outcome.Outcome.TheVariants as outcomes;
 
     /// Returns the search before any command of the key is submitted.
     pub fn new(alloc: Global) -> Result<KeySearch, NoMemory>
@@ -80,6 +82,8 @@ impl KeySearch {
         ensures sound { IfOk result (λ outcome. outcome ≡ Goes → IsSoundlyAnswered log.now id self.old.slots.items
             self.old.configurations.items self.new.slots.items self.new.configurations.items
             trail.old.items trail.new.items) }
+        ensures many { IfOk result (λ outcome. outcome ≡ outcomes.Configurations → AreWithin self.old.configurations.items trail.old.items
+            → ReachMany log.now self.old.slots.items trail.new.items self.old.configurations.items limit) }
     {
         let slots = self.slots.as_slice();
         let Some(slot) = slot_of(log, slots, id) else {

@@ -22,6 +22,7 @@ mod outcome;
 mod search;
 mod slot_set;
 mod slots;
+mod states;
 mod steps;
 mod texts;
 mod timed_command;

@@ -35,8 +35,11 @@ pub struct Search {
 
 impl Search {
     ghost use Rattle.mencius_clients.specs.Searched.{HasSearched, IsAfter, called_at, configurations_of, slots_of};
-    ghost use Rattle.mencius_clients.specs.OrdersSoFar.{HasFound, IsLongerTrail, IsSoundlyAnswered};
+    ghost use Rattle.mencius_clients.specs.OrdersSoFar.{AreWithin, HasFound, IsLongerTrail, IsSoundlyAnswered};
+    ghost use Rattle.mencius_clients.specs.ManyStates.{ComesAfterMany};
+    ghost use Rattle.mencius_clients.specs.States.{ReachMany};
     ghost use Rattle.mencius_clients.specs.declared.outcome.Outcome.TheVariants.{Goes};
+    ghost use Rattle.mencius_clients.specs.declared.outcome.Outcome.TheVariants as outcomes;
     ghost use Rattle.mencius_judge.specs.Promises.{AreOneReply};
 
     /// Returns the search before the first line.
@@ -69,6 +72,9 @@ impl Search {
         ensures found { IfOk result (λ outcome. (u later : Log) → reverse log.now ≡ later ++ observation.now ∷ u
             → line ≡ length u → AreOneReply (reverse log.now) → HasSearched (reverse log.now) u log.now self.old
             → HasFound log.now u self.old → outcome ≡ Goes → HasFound log.now (observation.now ∷ u) self.new) }
+        ensures many { IfOk result (λ outcome. (u later : Log) → reverse log.now ≡ later ++ observation.now ∷ u
+            → AreOneReply (reverse log.now) → HasSearched (reverse log.now) u log.now self.old → HasFound log.now u self.old
+            → outcome ≡ outcomes.Configurations → ComesAfterMany u observation.now limit) }
     {
         match observation {
             Observation::Submit { command } => {
@@ -166,6 +172,9 @@ impl Search {
         ensures found { IfOk result (λ outcome. (u later : Log) → reverse log.now ≡ later ++ Reply id answer.now ∷ u
             → AreOneReply (reverse log.now) → HasSearched (reverse log.now) u log.now self.old → HasFound log.now u self.old
             → outcome ≡ Goes → HasFound log.now (Reply id answer.now ∷ u) self.new) }
+        ensures many { IfOk result (λ outcome. (u later : Log) → reverse log.now ≡ later ++ Reply id answer.now ∷ u
+            → AreOneReply (reverse log.now) → HasSearched (reverse log.now) u log.now self.old → HasFound log.now u self.old
+            → outcome ≡ outcomes.Configurations → ComesAfterMany u (Reply id answer.now) limit) }
     {
         if is_failed(answer) {
             return Ok(Outcome::Goes);
@@ -209,6 +218,10 @@ impl Search {
             (slots_of (get_by_text self.old.by_key key.now)) (configurations_of (get_by_text self.old.by_key key.now))
             (slots_of (get_by_text self.new.by_key key.now)) (configurations_of (get_by_text self.new.by_key key.now))
             self.old.trail.items self.new.trail.items) }
+        ensures many { IfOk result (λ outcome. outcome ≡ outcomes.Configurations
+            → AreWithin (configurations_of (get_by_text self.old.by_key key.now)) self.old.trail.items
+            → ReachMany log.now (slots_of (get_by_text self.old.by_key key.now)) self.new.trail.items
+            (configurations_of (get_by_text self.old.by_key key.now)) limit) }
     {
         let mut search = self.take_key(key)?;
         let outcome = search.reply(self.alloc, log, replies, id, limit, &mut self.trail)?;

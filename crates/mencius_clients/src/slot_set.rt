@@ -1,8 +1,9 @@
 //! Sets of slots.
 
-ghost use Rattle.std.specs.Prelude.{◌≡◌, ◌≢◌, ◌<◌, ℕ, List, IsTrue, true, false};
+ghost use Rattle.std.specs.Prelude.{◌≡◌, ◌≢◌, ◌<◌, ◌≤◌, ℕ, List, IfSome, IsTrue, true, false};
 ghost use Rattle.mencius_log.specs.declared.observation.Observation.{Observation};
 ghost use Rattle.mencius_clients.specs.Configurations.{AreLost, Calls, IsLess, has_slot, no_slots};
+ghost use Rattle.mencius_clients.specs.States.{HasNext, IsFirstDifference};
 
 /// The highest number of commands of one key that may wait for their replies at once.
 pub const SLOTS: usize = 4096;
@@ -70,6 +71,42 @@ impl SlotSet {
             }
         }
         true
+    }
+
+    /// Returns whether another set has the first slot that only one of the two sets has.
+    pub fn has_next(&self, other: &SlotSet) -> bool
+        ensures { IsTrue result → HasNext self.now other.now }
+    {
+        match self.first_difference(other) {
+            Some(slot) => other.has(slot),
+            None => false,
+        }
+    }
+
+    // Returns the first slot that only one of the two sets has.
+    fn first_difference(&self, other: &SlotSet) -> Option<usize>
+        ensures { IfSome result (λ slot. IsFirstDifference self.now other.now slot) }
+    {
+        for word in 0..WORDS {
+            if self.words[word] != other.words[word] {
+                return self.first_difference_from(other, 64 * word);
+            }
+        }
+        None
+    }
+
+    // Returns the first of the next 64 slots that only one of the two sets has.
+    fn first_difference_from(&self, other: &SlotSet, start: usize) -> Option<usize>
+        requires few { start ≤ 4032 }
+        requires same { (t : ℕ) → t < start → has_slot self.now t ≡ has_slot other.now t }
+        ensures { IfSome result (λ slot. IsFirstDifference self.now other.now slot) }
+    {
+        for slot in start..start + 64 {
+            if self.has(slot) != other.has(slot) {
+                return Some(slot);
+            }
+        }
+        None
     }
 
     /// Returns a number that two sets have in common if they differ only by lost slots.

@@ -1,6 +1,6 @@
 //! The effect of waiting commands, one after the other, up to a command that gets its reply.
 
-ghost use Rattle.std.specs.Prelude.{◌≡◌, ◌≢◌, true, Contains, ◌<◌, ◌≤◌, ◌++◌, ◌∷◌, ◌⊎◌, ℕ, List, [], IfOk, IfSome, OnOk, IsTrue, MatchOption, Some, false, length, slice_get};
+ghost use Rattle.std.specs.Prelude.{◌≡◌, ◌≢◌, true, Contains, ◌<◌, ◌≤◌, ◌++◌, ◌∷◌, ◌⊎◌, ℕ, List, [], IfOk, IfSome, OnOk, IsTrue, MatchOption, None, Some, false, length, slice_get};
 ghost use Rattle.mencius_base.specs.declared.command.Command.{Command};
 ghost use Rattle.mencius_log.specs.declared.observation.Observation.{Observation};
 ghost use Rattle.mencius_log.specs.declared.observation.Observation.TheVariants.{Reply};
@@ -8,10 +8,12 @@ ghost use Rattle.mencius_judge.specs.Log.{is_failed};
 ghost use Rattle.mencius_clients.specs.declared.configuration.Configuration.{Configuration};
 ghost use Rattle.mencius_clients.specs.OrdersSoFar.{AreReachable, AreSoundlySettled, AreWithin, IsLongerTrail, IsReachable, IsSoundEffect, IsSoundRead, IsSoundlyFreed, numbered, trail_with};
 ghost use Rattle.mencius_clients.specs.Configurations.{AllFollow, AreLost, AreReplyLines, Calls, FollowsAt, HasLess, HasRead, IsBarred, IsFreed, IsLonger, IsOneOf, IsPassed, IsRead, IsReadOn, IsRefuted, IsSettled, IsStep, IsUnacknowledged, become, has_slot, submitted_by, text_at, waiting};
+ghost use Rattle.mencius_clients.specs.States.{ReachMany};
 
 use crate::answers::{is_right_at, is_unacknowledged, reads_text, reply_at};
 use crate::configuration::Configuration;
 use crate::slot_set::SlotSet;
+use crate::states::is_given_up;
 use crate::texts::{is_cas, is_same_text_at, number_after, submitted_at};
 use crate::twins::{gives_way, twins_of};
 use crate::work::{Work, configuration_at};
@@ -509,7 +511,7 @@ fn is_lost(
 }
 
 /// Returns the configurations after the reply to the command in a slot, in which this command has taken effect, perhaps
-/// after others. Returns None if `limit` configurations arise or more.
+/// after others. Returns None if `limit` different configurations arise or more.
 pub fn settled(
     alloc: Global,
     log: &[Observation],
@@ -527,12 +529,17 @@ pub fn settled(
     ensures trail_longer { OnOk result (IsLongerTrail trail.old.items trail.new.items) }
     ensures sound { IfOk result (λ o. IfSome o (λ next. AreWithin configurations.now trail.old.items
         → AreSoundlySettled log.now slots.now trail.new.items configurations.now slot next.items)) }
+    ensures many { IfOk result (λ o. o ≡ None → AreWithin configurations.now trail.old.items
+        → ReachMany log.now slots.now trail.new.items configurations.now limit) }
 {
     let lost = lost_slots(log, replies, slots);
     let twins = twins_of(alloc, log, slots, &lost)?;
     let mut work = begun(alloc, log, replies, slots, configurations, &lost, trail)?;
     let mut next = Work::new(alloc);
-    for place in 0..limit {
+    for place in 0..usize::MAX {
+        if is_given_up(alloc, log, work.configurations.as_slice(), place, limit)? {
+            return Ok(None);
+        }
         let Some(from) = configuration_at(work.configurations.as_slice(), place) else {
             let best = best_of(alloc, log, next.configurations.as_slice(), &lost)?;
             return Ok(Some(best));
@@ -552,5 +559,6 @@ pub fn settled(
             )?;
         }
     }
-    Ok(None)
+    // No list has as many configurations.
+    Err(NoMemory)
 }

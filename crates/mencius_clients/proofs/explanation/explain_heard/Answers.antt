@@ -1,7 +1,16 @@
-use Rattle.std.proofs.Common.{[], reverse, subst, sym}
+use Rattle.std.proofs.Common.{reverse, subst}
+use Rattle.std.specs.Prelude.{IfSome}
+use Rattle.mencius_clients.specs.Explained.{IsExplanation}
 use Rattle.mencius_clients.proofs.SearchFound.{one_reply_heard}
 use Rattle.mencius_clients.proofs.OrdersFound.{all_found}
 use Rattle.mencius_clients.proofs.explanation.explain_heard.Goals as goal
+
+pub returns-in-Some : goal.returns-in-Some
+returns-in-Some c heard =
+    let log = c.args.log.now in
+    subst (λ found. IfSome found (IsExplanation log c.args.limit)) c.in-Some.is
+    (c.in_ok-explanation.ensures.explained (c.new-search.ensures.searched (reverse log) log)
+    (one_reply_heard c.args._judge.now log heard) (c.new-search.ensures.found log))
 
 pub returns : goal.returns
 returns c heard =

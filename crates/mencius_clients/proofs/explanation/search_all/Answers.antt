@@ -9,15 +9,18 @@ use Rattle.mencius_clients.proofs.Explaining.{ended_right, get_at, part_more, we
 use Rattle.mencius_clients.proofs.explanation.search_all.Goals as goal
 
 pub returns-in-Some-clause-explained : goal.returns-in-Some-clause-explained
-returns-in-Some-clause-explained c first =
+returns-in-Some-clause-explained c first one found =
     let log = c.args.log.now in
+    let u : Log = reverse (take c.loop-line.line log) in
     let at : slice_get log c.loop-line.line ≡ Some c.index-log-line.result =
     get_at log c.loop-line.line c.index-log-line.result c.loop-line-test.true c.index-log-line.is in
     let whole = whole_at log c.loop-line.line c.index-log-line.result at in
-    subst (λ found. IfSome found (IsExplanation log)) c.in-Some.is
-    (ended_right log c.loop-line.line c.index-log-line.result (reverse (take c.loop-line.line log)) whole.0 c.take.new.self
-    c.in_ok-outcome.outcome c.ended.result at whole.1 refl c.ended.ensures
-    (c.in_ok-outcome.ensures.after (reverse (take c.loop-line.line log)) whole.0 whole.1 (c.loop-line.invariant.0 first)))
+    subst (λ ended. IfSome ended (IsExplanation log c.args.limit)) c.in-Some.is
+    (ended_right log c.loop-line.line c.index-log-line.result u whole.0 c.take.new.self c.in_ok-outcome.outcome c.ended.result
+    at whole.1 refl c.ended.ensures (c.in_ok-outcome.ensures.after u whole.0 whole.1 (c.loop-line.invariant.0 first))
+    c.args.limit
+    (c.in_ok-outcome.ensures.many u whole.0 whole.1 one (c.loop-line.invariant.0 first)
+    (c.loop-line.invariant.1 first one found)))
 
 pub loop-line-preserved : goal.loop-line-preserved
 loop-line-preserved c =

@@ -1,11 +1,11 @@
 use Rattle.std.proofs.Common.{Global, List, Vec, ◌≡◌, ◌≤◌, ◌+◌, ℕ, Some, length, slice_get, sym, subst, ap, ◌∙◌}
 use Rattle.mencius_clients.specs.Configurations.{AreSettled, HasLess, IsOneOf, waiting}
-use Rattle.mencius_clients.specs.OrdersSoFar.{AreSoundlySettled}
+use Rattle.mencius_clients.specs.States.{HasManyIn}
 use Rattle.mencius_clients.specs.declared.configuration.Configuration.{Configuration}
 use Rattle.mencius_clients.specs.declared.steps.Step.{Step}
 use Rattle.mencius_clients.specs.declared.work.Work.{Work}
 use Rattle.mencius_clients.proofs.Growing.{settled_all, settled_best, settled_freed, settled_longer, settled_none}
-use Rattle.mencius_clients.proofs.SoundSteps.{SoSettled, all_later, freed_more, none_one, settled_later, trail_more, within_later}
+use Rattle.mencius_clients.proofs.SoundSteps.{SoSettled, freed_more, none_one, settled_later, trail_more, within_later}
 use Rattle.mencius_clients.proofs.steps.settled.Goals as goal
 use Rattle.mencius_clients.proofs.steps.settled.Goals.{then-has+in_ok-push_freed, else-has+in_ok-push_steps}
 
@@ -32,7 +32,7 @@ returns-in_default-clause-settled c =
     settled_best log slots c.args.configurations.now next c.in_ok-best.best.items c.args.slot
     (settled_all log slots c.args.configurations.now c.loop-place.work.configurations.items next c.args.slot
     c.loop-place.place c.loop-place.invariant.0
-    (subst (λ xs. length xs ≤ c.loop-place.place) c.as_slice.ensures.value c.in_default.ensures))
+    (subst (λ xs. length xs ≤ c.loop-place.place) c.as_slice-in-loop-place.ensures.value c.in_default.ensures))
     (subst (λ xs. (d : Configuration) → IsOneOf xs d → HasLess log (waiting log slots) c.in_ok-best.best.items d)
     c.as_slice-in_default.ensures.value
     (c.in_ok-best.ensures.best (waiting log slots) c.lost_slots-lost.ensures))
@@ -57,7 +57,7 @@ loop-place-preserved c =
     let h = c.loop-place.invariant.0 in
     let s : SoSettled log slots cs slot old trail work next = c.loop-place.invariant.1 in
     let at : slice_get work c.loop-place.place ≡ Some c.in-Some.from =
-    ap (λ xs. slice_get xs c.loop-place.place) (sym c.as_slice.ensures.value) ∙ c.in-Some.ensures in
+    ap (λ xs. slice_get xs c.loop-place.place) (sym c.as_slice-in-loop-place.ensures.value) ∙ c.in-Some.ensures in
     let place : ℕ = c.loop-place.place in
     elim c.if-has.branch [
       | then-has+in_ok-push_freed w ↦
@@ -108,3 +108,14 @@ loop-place-preserved c =
                 (subst (λ (v : Work). SoSettled log slots cs slot old longer new v.configurations.items) (sym w.next-is) sound)),
           )
     ]
+
+pub returns-then-branch-clause-many : goal.returns-then-branch-clause-many
+returns-then-branch-clause-many c none within =
+    let m : HasManyIn c.args.log.now c.as_slice.result.now c.args.limit = c.in_ok-is_given_up.ensures c.if-branch.true in
+    record {
+      some = m.some;
+      many = m.many;
+      rising = m.rising;
+      reached = λ d one. (c.loop-place.invariant.1.1 within).0 d
+          (subst (λ xs. IsOneOf xs d) c.as_slice.ensures.value (m.within d one));
+    }

@@ -1,6 +1,7 @@
 use Rattle.mencius_judge.specs.Log.{acknowledged, has_id}
-use Rattle.mencius_clients.specs.OrdersSoFar.{IsSoundlyAnswered}
-use Rattle.mencius_clients.proofs.SearchFound.{search_passes, search_replies}
+use Rattle.mencius_clients.specs.OrdersSoFar.{AreWithin, IsSoundlyAnswered}
+use Rattle.mencius_clients.specs.States.{ReachMany}
+use Rattle.mencius_clients.proofs.SearchFound.{search_many, search_passes, search_replies}
 use Rattle.std.proofs.Common.{[], ◌∷◌, ◌++◌, ◌||◌, cond, refl, ◌≡◌, ◌≢◌, reverse, ◌<◌, ℕ, List, Some, ap, arith, sym, subst, false, ◌∙◌}
 use Rattle.std.specs.BTreeMap.{get_by_text}
 use Rattle.std.specs.List.{Contains}
@@ -69,3 +70,19 @@ returns-clause-found c u later whole one s h goes =
     (configurations_of (get_by_text old.by_key k)) (slots_of (get_by_text new.by_key k))
     (configurations_of (get_by_text new.by_key k)) old.trail.items new.trail.items) key (more.sound goes))
     (subst (λ k. (y : List ℕ) → y ≢ k → get_by_text new.by_key y ≡ get_by_text old.by_key y) key more.others) h
+
+pub returns-clause-many : goal.returns-clause-many
+returns-clause-many c u later whole one s h gives =
+    let log = c.args.log.now in
+    let old = c.args.self.now in
+    let new = c.reply_key.new.self in
+    let x : Command = c.in-Some.command.now in
+    let small : c.args.id.number < number_count = omega arith in
+    let is : command_of u c.args.id ≡ Some x = sym (s.calls c.args.id small) ∙ c.in-Some.ensures in
+    let key : c.key_of.result.now ≡ key_of x.op = c.key_of.ensures ∙ ap key_of c.op.ensures.op in
+    let counts : is_failed c.args.answer.now ≡ false = sym c.is_failed.ensures ∙ c.if-is_failed.false in
+    let more = c.in_ok-outcome.ensures in
+    search_many log u later c.args.id c.args.answer.now old new x one counts whole is s more.trail_longer c.args.limit
+    (subst (λ k. AreWithin (configurations_of (get_by_text old.by_key k)) old.trail.items
+    → ReachMany log (slots_of (get_by_text old.by_key k)) new.trail.items (configurations_of (get_by_text old.by_key k))
+    c.args.limit) key (more.many gives)) h
