@@ -83,7 +83,7 @@ pub record IsManyAt (log : List Observation) (line : ℕ) : Type 0 where
   pub splits : IsSplitAt log line later o earlier
   pub many : AreManyWaiting (o ∷ earlier)
 
--- the line is a reply. The lines before it may have left many different states of a key behind
+-- the line is a reply. The lines before it may have led to many different states of a key
 abbrev pub ComesAfterManyAt : List Observation → ℕ → ℕ → Type 0
 ComesAfterManyAt log line most =
     (o : Observation) × (slice_get log line ≡ Some o) × ComesAfterMany (reverse (take line log)) o most

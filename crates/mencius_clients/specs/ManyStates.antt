@@ -1,4 +1,4 @@
--- Orders of the commands of a key that leave many different states behind. A search is given up at a reply if there are as
+-- Orders of the commands of a key that lead to many different states. A search is given up at a reply if there are as
 -- many as its limit allows.
 use Rattle.std.specs.Prelude.{◌≡◌, ◌≢◌, ◌<◌, ◌≤◌, ◌⊎◌, ℕ, Bool, false, List, Some, length, slice_get}
 use Rattle.mencius_base.specs.declared.command.Command.{Command}
@@ -11,14 +11,14 @@ use Rattle.mencius_judge.specs.Linearization.{IsLinearization}
 use Rattle.mencius_judge.specs.Log.{Log, command_of, commands_of, has_id, is_failed}
 use Rattle.mencius_clients.specs.KeyLogs.{log_of_key}
 
--- the two orders leave different states of the key behind: different texts, or a command has taken effect in only one
+-- the two orders lead to different states of the key: different texts, or a command has taken effect in only one
 abbrev pub LeaveDifferent : Log → List ℕ → List CommandId → List CommandId → Type 0
 LeaveDifferent w key order other =
     (value_at key (commands_of w order) ≢ value_at key (commands_of w other))
     ⊎ ((id : CommandId) × (has_id order id ≢ has_id other id))
 
--- there are `most` orders or more, each with a mark. Orders with the same mark leave different states behind, so no three
--- orders leave the same state
+-- there are `most` orders or more, each with a mark. Orders with the same mark lead to different states, so no three
+-- orders lead to the same state
 pub record HasManyStates (w : Log) (key : List ℕ) (most : ℕ) : Type 0 where
   pub orders : List (List CommandId × Bool)
   pub many : most ≤ length orders

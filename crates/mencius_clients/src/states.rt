@@ -14,8 +14,8 @@ use mencius_log::Observation;
 use std::alloc::Global;
 use std::cmp::Ordering;
 
-/// Returns whether a search that goes on at this place has to be given up: `limit` places are behind it, and at least
-/// `limit` of the configurations have different states.
+/// Returns whether a search that goes on at this place must be given up. It must if `limit` places come before this one,
+/// and at least `limit` of the configurations have different states.
 pub fn is_given_up(
     alloc: Global,
     log: &[Observation],
