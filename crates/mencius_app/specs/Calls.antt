@@ -1,5 +1,5 @@
 -- A call of the program, the task that its arguments request, and its possible endings.
-use Rattle.std.specs.Prelude.{◌≡◌, ◌≢◌, ◌⊎◌, ◌≤◌, ◌+◌, ◌&&◌, ℕ, Bool, true, false, not, List, [], ◌++◌, Some, None, option_map, IfSome, codes, string_bytes}
+use Rattle.std.specs.Prelude.{◌≡◌, ◌≢◌, ◌⊎◌, ◌≤◌, ◌+◌, ◌&&◌, ℕ, Bool, true, false, not, List, [], ◌++◌, Some, None, option_map, IfErr, IfOk, IfSome, codes, string_bytes}
 use Rattle.std.specs.Io.KnownBytes.{Appends}
 use Rattle.clap.specs.Words.{IsAmong, Text}
 use Rattle.clap.specs.declared.error.kind.ErrorKind.{ErrorKind}
@@ -7,25 +7,25 @@ use Rattle.mencius_io.specs.Streams.{HasFailed, StreamState, WritesFront, most_f
 use Rattle.mencius_command_line.specs.CommandLine.{TaskState, are_texts, asked_check, asked_clients, asked_draw, asked_judge, asked_replay, asked_run, asked_trace, faults, line_of, task_in}
 use Rattle.mencius_command_line.specs.Help.{shown_for}
 use Rattle.mencius_command_line.specs.declared.trace_options.TraceOptions.{TraceOptions}
-use Rattle.mencius_input.specs.declared.kind.Kind.TheVariants as input
-use Rattle.mencius_input.specs.Scenario.{scenario}
-use Rattle.mencius_app.specs.Check.{check_task}
-use Rattle.mencius_app.specs.ClientJudgements.{ExplainsBadLine, IsBadLog, clients_task}
-use Rattle.mencius_app.specs.Pictures.{ExplainsPicture, draw_task}
+use Rattle.mencius_input.specs.declared.kind.Kind.TheVariants as kind
+use Rattle.mencius_app.specs.Check.{explained_check}
+use Rattle.mencius_app.specs.ClientJudgements.{ExplainsBadLine, IsBadLog, explained_clients}
+use Rattle.mencius_app.specs.Pictures.{explained_drawing}
 use Rattle.mencius_app.specs.Ending.{failure_in}
-use Rattle.mencius_app.specs.Failures.{ExplainsAs, ExplainsByFields, ExplainsIn, Explanation, Fails}
-use Rattle.mencius_app.specs.Input.{HasFault, unless_long}
-use Rattle.mencius_app.specs.Judgements.{ExplainsByLine, judge_task}
+use Rattle.mencius_app.specs.Failures.{ExplainedTask, ExplainsIn, Fails, FailsToMake, explained_as}
+use Rattle.mencius_app.specs.Judgements.{explained_judgement}
 use Rattle.mencius_app.specs.Replay.{replay_task}
 use Rattle.mencius_app.specs.Run.{run_task}
 use Rattle.mencius_app.specs.Trace.{trace_task}
-use Rattle.mencius_app.specs.Tasks.{AsksReader, IsCause, Streams, Task, Writes}
+use Rattle.mencius_app.specs.Tasks.{AsksReader, IsCause, IsOutput, StreamUse, Streams, Task, Writes, states_of}
 use Rattle.mencius_app.specs.declared.no_task.TheConstants.{NOT_TEXT}
 use Rattle.mencius_trace.specs.declared.view.View.{View}
 use Rattle.mencius_app.specs.declared.ending.Ending.{Ending}
 use Rattle.mencius_app.specs.declared.ending.Ending.TheVariants.{Done, Refused, BadCommandLine, Failed, BoardFailed}
 use Rattle.mencius_app.specs.declared.call.Begun.{Begun}
 use Rattle.mencius_app.specs.declared.call.Begun.TheVariants.{Ended, Run}
+use Rattle.mencius_app.specs.declared.call.Made.{Made}
+use Rattle.mencius_app.specs.declared.call.Made.TheVariants as making
 use Rattle.mencius_app.specs.declared.call.RunOptions.{RunOptions}
 
 -- ---- the requested task
@@ -36,27 +36,24 @@ view_of x = record { is_json = x.is_json; instance = x.instance; command = x.com
 
 -- the task that a command line requests. A trace or a drawing whose options have a bad value can write no text, and
 -- neither can a judgement of what clients saw without valid options
-abbrev pub task_of : TaskState → Task
-task_of (asked_replay is_strict) = replay_task
-task_of (asked_trace (Some options)) = trace_task (view_of options)
-task_of (asked_trace None) = record { IsText = λ known text is_clean. ⊥; IsBadInput = HasFault (unless_long scenario) }
-task_of (asked_draw (Some options)) = draw_task options
-task_of (asked_draw None) = record { IsText = λ known text is_clean. ⊥; IsBadInput = HasFault (unless_long scenario) }
-task_of asked_check = check_task
-task_of (asked_judge is_brief is_json) = judge_task is_brief is_json
-task_of (asked_clients (Some options)) = clients_task options
-task_of (asked_clients None) =
-    record { IsText = λ known text is_clean. ⊥; IsBadInput = λ known fault. IfSome known (λ bytes. IsBadLog bytes fault) }
-task_of (asked_run with_journal with_observations key) = run_task with_journal with_observations key
+abbrev pub explained_task : TaskState → ExplainedTask
+explained_task (asked_replay is_strict) = explained_as kind.Replay replay_task
+explained_task (asked_trace (Some options)) = explained_as kind.Replay (trace_task (view_of options))
+explained_task (asked_trace None) = explained_as kind.Replay (record replay_task { IsText = λ known text is_clean. ⊥ })
+explained_task (asked_draw (Some options)) = explained_drawing options
+explained_task (asked_draw None) = explained_as kind.Replay (record replay_task { IsText = λ known text is_clean. ⊥ })
+explained_task asked_check = explained_check
+explained_task (asked_judge is_brief is_json) = explained_judgement is_brief is_json
+explained_task (asked_clients (Some options)) = explained_clients options
+explained_task (asked_clients None) = record {
+  task = record { IsText = λ known text is_clean. ⊥; IsBadInput = λ known fault. IfSome known (λ bytes. IsBadLog bytes fault) };
+  Tells = ExplainsBadLine;
+}
+explained_task (asked_run with_journal with_observations key) =
+    explained_as kind.Run (run_task with_journal with_observations key)
 
--- the words that a requested task may give for a fault of its input
-abbrev pub explanation_of : TaskState → Explanation
-explanation_of (asked_draw (Some options)) = ExplainsPicture options
-explanation_of asked_check = ExplainsByFields
-explanation_of (asked_judge is_brief is_json) = ExplainsByLine
-explanation_of (asked_clients options) = ExplainsBadLine
-explanation_of (asked_run with_journal with_observations key) = ExplainsAs input.Run
-explanation_of _ = ExplainsAs input.Replay
+abbrev pub task_of : TaskState → Task
+task_of task = (explained_task task).task
 
 -- whether the ending of a requested task reports a text that is not clean. Only a strict replay and the judgements do so
 abbrev pub is_reporting : TaskState → Bool
@@ -157,10 +154,29 @@ pub record EndsCall (arguments : List Text) (s : Streams) (ending : Ending) : Ty
   pub cause : IfSome (failure_in ending) (λ failure. IsCause (call_task arguments) s failure.fault)
   pub words : IfSome (failure_in ending) (λ failure. IfSome failure.words (λ words.
       (faults (line_of arguments) ≡ [])
-      × ExplainsIn (explanation_of (task_in (line_of arguments))) s.reader.bytes failure.fault (string_bytes words)))
+      × ExplainsIn (explained_task (task_in (line_of arguments))).Tells s.reader.bytes failure.fault (string_bytes words)))
   pub board : ending ≡ BoardFailed → (faults (line_of arguments) ≡ []) × (is_run (task_in (line_of arguments)) ≡ true)
   -- the limits on the use of the reader and the writer
   pub asked : AsksAs (task_in (line_of arguments)) s
+
+-- the three streams of a call
+pub record CallStreams : Type 1 where
+  pub source : StreamUse
+  pub sink : StreamUse
+  pub errors : StreamUse
+
+abbrev pub call_streams : StreamUse → StreamUse → StreamUse → CallStreams
+call_streams source sink errors = record { source = source; sink = sink; errors = errors }
+
+-- a call of the program with these arguments and streams may end with this ending
+pub record IsProgramCall (arguments : List Text) (s : CallStreams) (ending : Ending) : Type 0 where
+  pub call : EndsCall arguments (states_of s.source s.sink) ending
+  pub unread : IsUnread arguments ending → s.source.new ≡ s.source.old
+  pub unwritten : (ending ≡ BadCommandLine) ⊎ (ending ≡ BoardFailed) → s.sink.new ≡ s.sink.old
+  -- only refused arguments are reported here. `end` reports the fault of a call
+  pub complaint : ending ≡ BadCommandLine
+      → Complains arguments (s.errors.state s.errors.old) (s.errors.state s.errors.new)
+  pub quiet : ending ≢ BadCommandLine → s.errors.new ≡ s.errors.old
 
 -- ---- parts of a call
 
@@ -174,15 +190,27 @@ abbrev pub EndsTask : TaskState → Streams → Ending → Type 0
 EndsTask task s Done = DidTask task s false
 EndsTask task s Refused = DidTask task s true
 EndsTask task s BadCommandLine = ⊥
-EndsTask task s (Failed failure) = Fails (task_of task) (explanation_of task) s failure
+EndsTask task s (Failed failure) = Fails (explained_task task) s failure
 EndsTask task s BoardFailed = is_run task ≡ true
 
--- the property holds for the ending if the call has ended
-abbrev pub IfEnded : (Ending → Type 0) → Begun → Type 0
-IfEnded P (Ended ending) = P ending
-IfEnded P (Run options) = Unit {0}
+-- the text of a task was made or could not be made. If the task is a run, nothing was read yet
+abbrev pub MakesText : TaskState → StreamUse → Made → Type 0
+MakesText task source (making.Text made) =
+    IfOk made (IsOutput (task_of task) (source.state source.old).bytes)
+    × IfErr made (FailsToMake (explained_task task) (source.state source.old) (source.state source.new))
+    × AsksReaderAs task (source.state source.old) (source.state source.new)
+MakesText task source (making.Run options) = (task ≡ task_with options) × (source.new ≡ source.old)
 
--- the property holds for the options of the run if the call still has to do a run
-abbrev pub IfRun : (RunOptions → Type 0) → Begun → Type 0
-IfRun P (Ended ending) = Unit {0}
-IfRun P (Run options) = P options
+-- the call did this task without a board. If the task is a run, the streams were not used yet
+abbrev pub BeginsTask : TaskState → StreamUse → StreamUse → Begun → Type 0
+BeginsTask task source sink (Ended ending) =
+    EndsTask task (states_of source sink) ending × AsksAs task (states_of source sink) × (ending ≢ BoardFailed)
+BeginsTask task source sink (Run options) =
+    (task ≡ task_with options) × (source.new ≡ source.old) × (sink.new ≡ sink.old)
+
+-- the call has ended without a board. If the arguments request a run, the streams were not used yet
+abbrev pub BeginsCall : List Text → CallStreams → Begun → Type 0
+BeginsCall arguments s (Ended ending) = IsProgramCall arguments s ending × (ending ≢ BoardFailed)
+BeginsCall arguments s (Run options) =
+    AsksFor arguments (task_with options)
+    × (s.source.new ≡ s.source.old) × (s.sink.new ≡ s.sink.old) × (s.errors.new ≡ s.errors.old)

@@ -9,6 +9,7 @@ use Rattle.mencius_format.specs.ValuesOrFaults.{map_ok}
 use Rattle.mencius_input.specs.Kinds.{kind_in}
 use Rattle.mencius_input.specs.Plan.{plan}
 use Rattle.mencius_input.specs.Scenario.{scenario}
+use Rattle.mencius_app.specs.Failures.{ExplainedTask, ExplainsByFields}
 use Rattle.mencius_app.specs.Input.{HasFault, Says, unless_long}
 use Rattle.mencius_app.specs.Tasks.{Task}
 use Rattle.mencius_input.specs.declared.scenario.Scenario.{Scenario}
@@ -64,3 +65,6 @@ check_task = record {
   IsText = λ known text is_clean. IsCheckOf known text × (is_clean ≡ true);
   IsBadInput = HasFault (unless_long either_scenario);
 }
+
+abbrev pub explained_check : ExplainedTask
+explained_check = record { task = check_task; Tells = ExplainsByFields }

@@ -11,6 +11,7 @@ use Rattle.mencius_clients.specs.ClientLines.{client_explanation, client_verdict
 use Rattle.mencius_clients.specs.ClientVerdicts.{IsVerdictFor}
 use Rattle.mencius_clients.specs.ReadLogs.{IsBadAt}
 use Rattle.mencius_command_line.specs.declared.client_options.ClientOptions.{ClientOptions}
+use Rattle.mencius_app.specs.Failures.{ExplainedTask, Explanation}
 use Rattle.mencius_app.specs.Tasks.{Task}
 
 -- the lines of the order of a verdict, as the executions of one server. Only a linearizable log has an order
@@ -61,5 +62,8 @@ clients_task options = record {
 }
 
 -- the words name the number of a line of the log that has this fault
-abbrev pub ExplainsBadLine : IoFault → List ℕ → List ℕ → Type 0
+abbrev pub ExplainsBadLine : Explanation
 ExplainsBadLine fault bytes words = (number : ℕ) × IsBadAt bytes fault number × ExplainsLine number words
+
+abbrev pub explained_clients : ClientOptions → ExplainedTask
+explained_clients options = record { task = clients_task options; Tells = ExplainsBadLine }

@@ -25,6 +25,11 @@ use Rattle.mencius_base.specs.Plan.{PlanState}
 abbrev pub Explanation : Type 1
 Explanation = IoFault → List ℕ → List ℕ → Type 0
 
+-- a task whose faults come with words, and the rule for these words
+pub record ExplainedTask : Type 1 where
+  pub task : Task
+  pub Tells : Explanation
+
 -- the bytes are a scenario of the other kind
 abbrev pub IsOtherKind : Kind → List ℕ → Type 0
 IsOtherKind Replay bytes = (written : Scenario PlanState) × (plan bytes ≡ Ok written)
@@ -39,6 +44,10 @@ other_kind_words Run = codes "this is a scenario of events: `mencius replay` tak
 abbrev pub ExplainsAs : Kind → Explanation
 ExplainsAs kind fault bytes words =
     Explains kind fault bytes words ⊎ (IsOtherKind kind bytes × (words ≡ other_kind_words kind))
+
+-- a task that accepts only scenarios of this kind
+abbrev pub explained_as : Kind → Task → ExplainedTask
+explained_as kind task = record { task = task; Tells = ExplainsAs kind }
 
 -- the words of a check explain the fault for the kind of scenario that the bytes are meant as
 abbrev pub ExplainsByFields : Explanation
@@ -60,16 +69,20 @@ abbrev pub IsExplained : Explanation → Option (List ℕ) → Failure → Type 
 IsExplained Tells known failure =
     IfSome failure.words (λ words. ExplainsIn Tells known failure.fault (string_bytes words))
 
--- the failure of a task that made no text has a cause, and its words explain the fault
+-- the failure of reading an input has a cause, and its words explain the fault
 pub record FailsReading (IsBadInput : Option (List ℕ) → IoFault → Type 0) (Tells : Explanation) (old new : StreamState)
     (failure : Failure) : Type 0 where
   pub cause : IsReadingCause IsBadInput old new failure.fault
   pub words : IsExplained Tells old.bytes failure
 
+-- the failure of a task that made no text
+abbrev pub FailsToMake : ExplainedTask → StreamState → StreamState → Failure → Type 0
+FailsToMake t old new failure = FailsReading t.task.IsBadInput t.Tells old new failure
+
 -- the failure of a task has a cause, and its words explain the fault
-pub record Fails (t : Task) (Tells : Explanation) (s : Streams) (failure : Failure) : Type 0 where
-  pub cause : IsCause t s failure.fault
-  pub words : IsExplained Tells s.reader.bytes failure
+pub record Fails (t : ExplainedTask) (s : Streams) (failure : Failure) : Type 0 where
+  pub cause : IsCause t.task s failure.fault
+  pub words : IsExplained t.Tells s.reader.bytes failure
 
 -- ---- why a run failed
 
@@ -85,11 +98,17 @@ failure_of_board board.NoReader = BoardFailed
 failure_of_board board.ShowRefused = BoardFailed
 failure_of_board board.NoWorker = BoardFailed
 
--- the property holds for the failure of a run, unless its board failed
-abbrev pub UnlessBoard : (Failure → Type 0) → RunFailure → Type 0
-UnlessBoard P (Failed failure) = P failure
-UnlessBoard P BoardFailed = Unit {0}
+-- the board failed, or memory ran out. So it is not a fault of the input, the reader or the writer
+abbrev pub IsOwnFailure : RunFailure → Type 0
+IsOwnFailure (Failed failure) = (failure.fault ≡ NoMemory) × (failure.words ≡ None)
+IsOwnFailure BoardFailed = Unit {0}
 
--- the failure is that memory ran out, without words, and not a fault of the input, the reader or the writer
-abbrev pub IsOwn : Failure → Type 0
-IsOwn failure = (failure.fault ≡ NoMemory) × (failure.words ≡ None)
+-- the failure of a run that made no text, which is a failed board or the failure of its task
+abbrev pub RunFailsToMake : ExplainedTask → StreamState → StreamState → RunFailure → Type 0
+RunFailsToMake t old new (Failed failure) = FailsToMake t old new failure
+RunFailsToMake t old new BoardFailed = Unit {0}
+
+-- the failure of a run, which is a failed board or the failure of its task
+abbrev pub RunFails : ExplainedTask → Streams → RunFailure → Type 0
+RunFails t s (Failed failure) = Fails t s failure
+RunFails t s BoardFailed = Unit {0}

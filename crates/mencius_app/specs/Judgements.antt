@@ -1,12 +1,12 @@
 -- The text of a judgement, and the log that it belongs to.
 use Rattle.std.specs.Prelude.{◌≡◌, ℕ, Bool, true, false, if◌then◌else◌, List, Option, IfSome}
-use Rattle.mencius_io.specs.declared.fault.IoFault.{IoFault}
 use Rattle.mencius_judge.specs.declared.log_reader.Verdict.{Verdict}
 use Rattle.mencius_judge.specs.declared.log_reader.Verdict.TheVariants.{Kept, Unjudged, Broken}
 use Rattle.mencius_log.specs.BadLines.{ExplainsLine}
 use Rattle.mencius_judge.specs.LogReader.{AreBad, IsVerdictOf}
 use Rattle.mencius_verdict.specs.VerdictJson.{json_text}
 use Rattle.mencius_verdict.specs.VerdictLines.{broken_line, explained_text, kept_line, unjudged_line}
+use Rattle.mencius_app.specs.Failures.{ExplainedTask, Explanation}
 use Rattle.mencius_app.specs.Tasks.{Task}
 
 -- the text that reports a verdict. A brief text has only the line of the verdict
@@ -43,5 +43,8 @@ judge_task is_brief is_json = record {
 }
 
 -- the words name the number of a line of the log that has this fault
-abbrev pub ExplainsByLine : IoFault → List ℕ → List ℕ → Type 0
+abbrev pub ExplainsByLine : Explanation
 ExplainsByLine fault bytes words = (number : ℕ) × AreBad bytes fault number × ExplainsLine number words
+
+abbrev pub explained_judgement : Bool → Bool → ExplainedTask
+explained_judgement is_brief is_json = record { task = judge_task is_brief is_json; Tells = ExplainsByLine }

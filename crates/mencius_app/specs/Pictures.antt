@@ -1,14 +1,13 @@
 -- The picture of a scenario, the input that it belongs to, and the limit on its size.
 use Rattle.std.specs.Prelude.{◌≡◌, ◌⊎◌, ◌<◌, ◌≤◌, ℕ, true, List, ◌++◌, Option, Some, None, codes, decimal, IfSome, string_bytes}
 use Rattle.mencius_io.specs.declared.failure.Failure.{Failure}
-use Rattle.mencius_io.specs.declared.fault.IoFault.{IoFault}
 use Rattle.mencius_io.specs.declared.fault.IoFault.TheVariants.{BadLimit, NoMemory}
 use Rattle.mencius_draw.specs.declared.options.Options.{Options}
 use Rattle.mencius_draw.specs.Layout.{lines_of}
 use Rattle.mencius_draw.specs.Picture.{ShowsTrace, levels_of}
 use Rattle.mencius_draw.specs.Places.{most_levels}
 use Rattle.mencius_input.specs.declared.kind.Kind.TheVariants.{Replay}
-use Rattle.mencius_app.specs.Failures.{ExplainsAs}
+use Rattle.mencius_app.specs.Failures.{ExplainedTask, ExplainsAs, Explanation}
 use Rattle.mencius_app.specs.Tasks.{Task}
 use Rattle.mencius_input.specs.Scenario.{scenario}
 use Rattle.mencius_app.specs.Input.{HasFault, unless_long}
@@ -46,10 +45,13 @@ too_large_words levels =
     ++ codes ": ask for fewer events by `--from` and `--to`"
 
 -- the words explain a fault as they do for a trace, or they name the number of levels of a picture that is too large
-abbrev pub ExplainsPicture : Options → IoFault → List ℕ → List ℕ → Type 0
+abbrev pub ExplainsPicture : Options → Explanation
 ExplainsPicture options fault bytes words =
     ExplainsAs Replay fault bytes words
     ⊎ ((fault ≡ BadLimit) × (levels : ℕ) × IsTooLarge options (Some bytes) levels × (words ≡ too_large_words levels))
+
+abbrev pub explained_drawing : Options → ExplainedTask
+explained_drawing options = record { task = draw_task options; Tells = ExplainsPicture options }
 
 -- the failure means that memory ran out, or that the picture of the trace would be too large
 abbrev pub IsRefusedAs : Options → List ℕ → Failure → Type 0

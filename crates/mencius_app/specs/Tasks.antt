@@ -9,6 +9,16 @@ use Rattle.mencius_app.specs.declared.output.Output.{Output}
 
 -- ---- a reader and a writer
 
+-- a stream before a call and after it. Its state says which bytes it carries and how many of its calls failed
+pub record StreamUse : Type 1 where
+  pub Stream : Type 0
+  pub state : Stream → StreamState
+  pub old : Stream
+  pub new : Stream
+
+abbrev pub used : {T : Type 0} → (T → StreamState) → T → T → StreamUse
+used {T} state old new = record { Stream = T; state = state; old = old; new = new }
+
 -- a reader and a writer, before a task and after it
 pub record Streams : Type 0 where
   pub reader : StreamState
@@ -20,6 +30,11 @@ pub record Streams : Type 0 where
 abbrev pub streams : StreamState → StreamState → StreamState → StreamState → Streams
 streams reader reader_now writer writer_now =
     record { reader = reader; reader_now = reader_now; writer = writer; writer_now = writer_now }
+
+-- the states of a reader and a writer
+abbrev pub states_of : StreamUse → StreamUse → Streams
+states_of source sink =
+    streams (source.state source.old) (source.state source.new) (sink.state sink.old) (sink.state sink.new)
 
 -- a task took at most `most_bytes` + 1 bytes from its reader, and the count of the reader's failed calls grew by at
 -- most `most_failed_calls`

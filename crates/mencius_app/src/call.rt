@@ -1,10 +1,9 @@
 //! A call of the program, from its arguments to its ending.
 
-ghost use Rattle.std.specs.Prelude.{◌≡◌, ◌≢◌, ◌⊎◌, IfErr, IfOk, OnOk};
+ghost use Rattle.std.specs.Prelude.{◌≡◌, ◌≢◌};
 ghost use Rattle.mencius_command_line.specs.CommandLine.{bytes_of, task_state};
-ghost use Rattle.mencius_app.specs.Calls.{AsksAs, AsksFor, AsksReaderAs, Complains, EndsCall, EndsTask, IfEnded, IfRun, IsUnread, explanation_of, is_reporting, task_of, task_with, view_of};
-ghost use Rattle.mencius_app.specs.Failures.{FailsReading};
-ghost use Rattle.mencius_app.specs.Tasks.{IsOutput, streams};
+ghost use Rattle.mencius_app.specs.Calls.{AsksAs, BeginsCall, BeginsTask, EndsTask, IsProgramCall, MakesText, call_streams, is_reporting, task_with, view_of};
+ghost use Rattle.mencius_app.specs.Tasks.{streams, used};
 
 use crate::checks::read_check;
 use crate::client_judgements::read_client_judgement;
@@ -31,6 +30,15 @@ pub(crate) enum Begun {
     /// The call has ended.
     Ended(Ending),
     /// The call still has to do its run.
+    Run(RunOptions),
+}
+
+/// How far a task came before it writes anything.
+#[derive(Drop)]
+pub(crate) enum Made {
+    /// The text of the task, or the reason why the task has none.
+    Text(Result<Output, Failure>),
+    /// The task is a run, which has not begun.
     Run(RunOptions),
 }
 
@@ -62,14 +70,8 @@ pub fn perform<R: Source, W: Sink, E: Sink, T: Threads + Wait + Sync>(
     sink: &mut W,
     errors: &mut E,
 ) -> Ending
-    ensures call { EndsCall (bytes_of arguments.now) (streams (R.state source.old) (R.state source.new)
-        (W.state sink.old) (W.state sink.new)) result }
-    ensures unread { IsUnread (bytes_of arguments.now) result → source.new ≡ source.old }
-    ensures unwritten { (result ≡ Ending.BadCommandLine) ⊎ (result ≡ Ending.BoardFailed)
-        → sink.new ≡ sink.old }
-    ensures complaint { result ≡ Ending.BadCommandLine
-        → Complains (bytes_of arguments.now) (E.state errors.old) (E.state errors.new) }
-    ensures quiet { result ≢ Ending.BadCommandLine → errors.new ≡ errors.old }
+    ensures call { IsProgramCall (bytes_of arguments.now) (call_streams (used R.state source.old source.new)
+        (used W.state sink.old sink.new) (used E.state errors.old errors.new)) result }
 {
     match begin(alloc, arguments, source, sink, errors) {
         Begun::Ended(ending) => ending,
@@ -86,14 +88,9 @@ pub fn perform_in_turns<R: Source, W: Sink, E: Sink>(
     sink: &mut W,
     errors: &mut E,
 ) -> Ending
-    ensures call { EndsCall (bytes_of arguments.now) (streams (R.state source.old) (R.state source.new)
-        (W.state sink.old) (W.state sink.new)) result }
+    ensures call { IsProgramCall (bytes_of arguments.now) (call_streams (used R.state source.old source.new)
+        (used W.state sink.old sink.new) (used E.state errors.old errors.new)) result }
     ensures no_board { result ≢ Ending.BoardFailed }
-    ensures unread { IsUnread (bytes_of arguments.now) result → source.new ≡ source.old }
-    ensures unwritten { result ≡ Ending.BadCommandLine → sink.new ≡ sink.old }
-    ensures complaint { result ≡ Ending.BadCommandLine
-        → Complains (bytes_of arguments.now) (E.state errors.old) (E.state errors.new) }
-    ensures quiet { result ≢ Ending.BadCommandLine → errors.new ≡ errors.old }
 {
     match begin(alloc, arguments, source, sink, errors) {
         Begun::Ended(ending) => ending,
@@ -109,19 +106,8 @@ fn begin<R: Source, W: Sink, E: Sink>(
     sink: &mut W,
     errors: &mut E,
 ) -> Begun
-    ensures call { IfEnded (EndsCall (bytes_of arguments.now) (streams (R.state source.old) (R.state source.new)
-        (W.state sink.old) (W.state sink.new))) result }
-    ensures no_board { IfEnded (λ ending. ending ≢ Ending.BoardFailed) result }
-    ensures unread { IfEnded (λ ending. IsUnread (bytes_of arguments.now) ending
-        → source.new ≡ source.old) result }
-    ensures unwritten { IfEnded (λ ending. ending ≡ Ending.BadCommandLine
-        → sink.new ≡ sink.old) result }
-    ensures complaint { IfEnded (λ ending. ending ≡ Ending.BadCommandLine
-        → Complains (bytes_of arguments.now) (E.state errors.old) (E.state errors.new)) result }
-    ensures quiet { IfEnded (λ ending. ending ≢ Ending.BadCommandLine
-        → errors.new ≡ errors.old) result }
-    ensures run { IfRun (λ options. AsksFor (bytes_of arguments.now) (task_with options)
-        × (source.new ≡ source.old) × (sink.new ≡ sink.old) × (errors.new ≡ errors.old)) result }
+    ensures { BeginsCall (bytes_of arguments.now) (call_streams (used R.state source.old source.new)
+        (used W.state sink.old sink.new) (used E.state errors.old errors.new)) result }
 {
     if !are_texts(arguments) {
         // If standard error fails, there is nowhere left to report it.
@@ -136,18 +122,13 @@ fn begin<R: Source, W: Sink, E: Sink>(
 
 // Does a task, unless it is a run.
 fn begin_task<R: Source, W: Sink>(alloc: Global, task: Task, source: &mut R, sink: &mut W) -> Begun
-    ensures ended { IfEnded (λ ending. EndsTask (task_state task) (streams (R.state source.old)
-        (R.state source.new) (W.state sink.old) (W.state sink.new)) ending
-        × AsksAs (task_state task) (streams (R.state source.old)
-        (R.state source.new) (W.state sink.old) (W.state sink.new))) result }
-    ensures no_board { IfEnded (λ ending. ending ≢ Ending.BoardFailed) result }
-    ensures run { IfRun (λ options. (task_state task ≡ task_with options)
-        × (source.new ≡ source.old) × (sink.new ≡ sink.old)) result }
+    ensures { BeginsTask (task_state task) (used R.state source.old source.new)
+        (used W.state sink.old sink.new) result }
 {
     let is_reported = is_reporting(&task);
     match read_task(alloc, task, source) {
-        Ok(made) => Begun::Ended(ending_of(is_reported, deliver(sink, made))),
-        Err(options) => Begun::Run(options),
+        Made::Text(made) => Begun::Ended(ending_of(is_reported, deliver(sink, made))),
+        Made::Run(options) => Begun::Run(options),
     }
 }
 
@@ -176,33 +157,23 @@ fn view_of(options: TraceOptions) -> View
 }
 
 // Reads the input of a task and makes its text. For a run, it reads nothing and returns the options of the run.
-fn read_task<R: Source>(
-    alloc: Global,
-    task: Task,
-    source: &mut R,
-) -> Result<Result<Output, Failure>, RunOptions>
-    ensures made { IfOk result (λ made.
-        IfOk made (IsOutput (task_of (task_state task)) (R.state source.old).bytes)) }
-    ensures fault { IfOk result (λ made. IfErr made (FailsReading (task_of (task_state task)).IsBadInput
-        (explanation_of (task_state task)) (R.state source.old) (R.state source.new))) }
-    ensures asked { OnOk result (AsksReaderAs (task_state task) (R.state source.old) (R.state source.new)) }
-    ensures run { IfErr result (λ options. (task_state task ≡ task_with options)
-        × (source.new ≡ source.old)) }
+fn read_task<R: Source>(alloc: Global, task: Task, source: &mut R) -> Made
+    ensures { MakesText (task_state task) (used R.state source.old source.new) result }
 {
     match task {
-        Task::Replay { .. } => Ok(read_replay(alloc, source)),
-        Task::Trace(options) => Ok(read_trace(alloc, source, &view_of(options))),
-        Task::Draw(options) => Ok(read_picture(alloc, source, &options)),
-        Task::Check => Ok(read_check(alloc, source)),
+        Task::Replay { .. } => Made::Text(read_replay(alloc, source)),
+        Task::Trace(options) => Made::Text(read_trace(alloc, source, &view_of(options))),
+        Task::Draw(options) => Made::Text(read_picture(alloc, source, &options)),
+        Task::Check => Made::Text(read_check(alloc, source)),
         Task::Judge { is_brief, is_json } => {
-            Ok(read_judgement(alloc, source, is_brief, is_json))
+            Made::Text(read_judgement(alloc, source, is_brief, is_json))
         }
-        Task::Clients(options) => Ok(read_client_judgement(alloc, source, options)),
+        Task::Clients(options) => Made::Text(read_client_judgement(alloc, source, options)),
         Task::Run {
             with_journal,
             with_observations,
             key,
-        } => Err(RunOptions {
+        } => Made::Run(RunOptions {
             with_journal,
             with_observations,
             key,

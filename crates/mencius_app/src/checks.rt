@@ -5,8 +5,8 @@ ghost use Rattle.std.specs.List.{flat_map};
 ghost use Rattle.std.specs.Io.KnownBytes.{IsAtEnd};
 ghost use Rattle.mencius_input.specs.Kinds.{kind_in};
 ghost use Rattle.mencius_input.specs.Scenario.{scenario};
-ghost use Rattle.mencius_app.specs.Check.{EitherScenario, check_task, either_scenario, count_text, ok_line, replay_line, run_line};
-ghost use Rattle.mencius_app.specs.Failures.{ExplainsByFields, Fails, FailsReading};
+ghost use Rattle.mencius_app.specs.Check.{EitherScenario, check_task, either_scenario, count_text, explained_check, ok_line, replay_line, run_line};
+ghost use Rattle.mencius_app.specs.Failures.{ExplainsByFields, Fails, FailsToMake};
 ghost use Rattle.mencius_app.specs.Tasks.{AsksLittle, AsksReader, IsOutput, Writes, streams};
 
 use crate::failure::{misread, unread};
@@ -32,7 +32,7 @@ pub fn check<R: Source, W: Sink>(alloc: Global, source: &mut R, sink: &mut W) ->
         (W.state sink.old) (W.state sink.new)) true) }
 
     // The cause of a fault. In every case, the use of the reader and the writer is limited.
-    ensures fault { IfErr result (Fails check_task ExplainsByFields (streams (R.state source.old) (R.state source.new)
+    ensures fault { IfErr result (Fails explained_check (streams (R.state source.old) (R.state source.new)
         (W.state sink.old) (W.state sink.new))) }
     ensures asked { AsksLittle (streams (R.state source.old) (R.state source.new)
         (W.state sink.old) (W.state sink.new)) }
@@ -45,8 +45,7 @@ pub fn check<R: Source, W: Sink>(alloc: Global, source: &mut R, sink: &mut W) ->
 pub(crate) fn read_check<R: Source>(alloc: Global, source: &mut R) -> Result<Output, Failure>
     ensures end { OnOk result (IsAtEnd (R.state source.new).bytes) }
     ensures made { IfOk result (IsOutput check_task (R.state source.old).bytes) }
-    ensures fault { IfErr result (FailsReading check_task.IsBadInput ExplainsByFields
-        (R.state source.old) (R.state source.new)) }
+    ensures fault { IfErr result (FailsToMake explained_check (R.state source.old) (R.state source.new)) }
     ensures asked { AsksReader (R.state source.old) (R.state source.new) }
 {
     let bytes = match read_all(alloc, source) {

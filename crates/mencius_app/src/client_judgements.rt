@@ -1,8 +1,8 @@
 //! The judgement of what clients saw, and the text that it prints.
 
 ghost use Rattle.std.specs.Prelude.{◌≡◌, ◌≤◌, ◌+◌, ◌++◌, string_bytes, IfErr, IfOk, OnOk};
-ghost use Rattle.mencius_app.specs.ClientJudgements.{ExplainsBadLine, client_text, clients_task, further_text, is_linearizable, order_text};
-ghost use Rattle.mencius_app.specs.Failures.{Fails, FailsReading};
+ghost use Rattle.mencius_app.specs.ClientJudgements.{client_text, clients_task, explained_clients, further_text, is_linearizable, order_text};
+ghost use Rattle.mencius_app.specs.Failures.{Fails, FailsToMake};
 ghost use Rattle.mencius_app.specs.Tasks.{AsksLittle, AsksReader, IsOutput, Writes, streams};
 
 use crate::output::{Output, deliver};
@@ -34,7 +34,7 @@ pub fn judge_by_clients<R: Source, W: Sink>(
         (streams (R.state source.old) (R.state source.new) (W.state sink.old) (W.state sink.new))) }
 
     // The cause of a fault, and the limits on the use of the reader and the writer.
-    ensures fault { IfErr result (Fails (clients_task options) ExplainsBadLine
+    ensures fault { IfErr result (Fails (explained_clients options)
         (streams (R.state source.old) (R.state source.new) (W.state sink.old) (W.state sink.new))) }
     ensures asked { AsksLittle
         (streams (R.state source.old) (R.state source.new) (W.state sink.old) (W.state sink.new)) }
@@ -49,7 +49,7 @@ pub(crate) fn read_client_judgement<R: Source>(
     options: ClientOptions,
 ) -> Result<Output, Failure>
     ensures made { IfOk result (IsOutput (clients_task options) (R.state source.old).bytes) }
-    ensures fault { IfErr result (FailsReading (clients_task options).IsBadInput ExplainsBadLine
+    ensures fault { IfErr result (FailsToMake (explained_clients options)
         (R.state source.old) (R.state source.new)) }
     ensures asked { AsksReader (R.state source.old) (R.state source.new) }
 {

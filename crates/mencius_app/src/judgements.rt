@@ -3,8 +3,8 @@
 ghost use Rattle.std.specs.Prelude.{◌≡◌, ◌≤◌, ◌+◌, ◌++◌, string_bytes, IfErr, IfOk, OnOk};
 ghost use Rattle.mencius_io.specs.Streams.{most_failed_calls};
 ghost use Rattle.mencius_judge.specs.declared.log_reader.Verdict.TheVariants.{Broken};
-ghost use Rattle.mencius_app.specs.Failures.{Fails, FailsReading};
-ghost use Rattle.mencius_app.specs.Judgements.{ExplainsByLine, is_kept, judge_task, report_text, verdict_text};
+ghost use Rattle.mencius_app.specs.Failures.{Fails, FailsToMake};
+ghost use Rattle.mencius_app.specs.Judgements.{explained_judgement, is_kept, judge_task, report_text, verdict_text};
 ghost use Rattle.mencius_app.specs.Tasks.{IsOutput, Writes, streams};
 
 use crate::output::{Output, deliver};
@@ -34,7 +34,7 @@ pub fn judge<R: Source, W: Sink>(
         (streams (R.state source.old) (R.state source.new) (W.state sink.old) (W.state sink.new))) }
 
     // The cause of a fault. In every case, the number of failed calls is limited.
-    ensures fault { IfErr result (Fails (judge_task is_brief is_json) ExplainsByLine
+    ensures fault { IfErr result (Fails (explained_judgement is_brief is_json)
         (streams (R.state source.old) (R.state source.new) (W.state sink.old) (W.state sink.new))) }
     ensures few_reads { (R.state source.new).failures
         ≤ (R.state source.old).failures + most_failed_calls }
@@ -52,7 +52,7 @@ pub(crate) fn read_judgement<R: Source>(
     is_json: bool,
 ) -> Result<Output, Failure>
     ensures made { IfOk result (IsOutput (judge_task is_brief is_json) (R.state source.old).bytes) }
-    ensures fault { IfErr result (FailsReading (judge_task is_brief is_json).IsBadInput ExplainsByLine
+    ensures fault { IfErr result (FailsToMake (explained_judgement is_brief is_json)
         (R.state source.old) (R.state source.new)) }
     ensures few { (R.state source.new).failures
         ≤ (R.state source.old).failures + most_failed_calls }

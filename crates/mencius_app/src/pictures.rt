@@ -3,8 +3,8 @@
 ghost use Rattle.std.specs.Prelude.{◌≡◌, IfErr, IfOk, IfSome, Ok, OnOk, string_bytes, true};
 ghost use Rattle.std.specs.Io.KnownBytes.{IsAtEnd};
 ghost use Rattle.mencius_draw.specs.Picture.{IsPicture};
-ghost use Rattle.mencius_app.specs.Pictures.{ExplainsPicture, IsRefusedAs, draw_task, too_large_words};
-ghost use Rattle.mencius_app.specs.Failures.{Fails, FailsReading};
+ghost use Rattle.mencius_app.specs.Pictures.{IsRefusedAs, draw_task, explained_drawing, too_large_words};
+ghost use Rattle.mencius_app.specs.Failures.{Fails, FailsToMake};
 ghost use Rattle.mencius_app.specs.Tasks.{AsksLittle, AsksReader, IsOutput, Writes, streams};
 
 use crate::input::read_input;
@@ -30,7 +30,7 @@ pub fn draw<R: Source, W: Sink>(
         (W.state sink.old) (W.state sink.new)) true) }
 
     // The cause of a fault. In every case, the use of the reader and the writer is limited.
-    ensures fault { IfErr result (Fails (draw_task options.now) (ExplainsPicture options.now) (streams (R.state source.old) (R.state source.new)
+    ensures fault { IfErr result (Fails (explained_drawing options.now) (streams (R.state source.old) (R.state source.new)
         (W.state sink.old) (W.state sink.new))) }
     ensures asked { AsksLittle (streams (R.state source.old) (R.state source.new)
         (W.state sink.old) (W.state sink.new)) }
@@ -47,8 +47,7 @@ pub(crate) fn read_picture<R: Source>(
 ) -> Result<Output, Failure>
     ensures end { OnOk result (IsAtEnd (R.state source.new).bytes) }
     ensures made { IfOk result (IsOutput (draw_task options.now) (R.state source.old).bytes) }
-    ensures fault { IfErr result (FailsReading (draw_task options.now).IsBadInput (ExplainsPicture options.now)
-        (R.state source.old) (R.state source.new)) }
+    ensures fault { IfErr result (FailsToMake (explained_drawing options.now) (R.state source.old) (R.state source.new)) }
     ensures asked { AsksReader (R.state source.old) (R.state source.new) }
 {
     let scenario = read_input(alloc, source)?;

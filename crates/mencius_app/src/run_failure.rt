@@ -10,7 +10,7 @@ pub enum RunFailure {
     /// The input is bad, reading or writing failed, or memory ran out.
     Failed(Failure),
     /// The board that the workers share failed. Either a thread could not be started, or the board gave no reader or
-    /// showed nothing, or the lookup did not see the history that was shown last.
+    /// showed nothing.
     BoardFailed,
 }
 

@@ -3,15 +3,13 @@
 ghost use Rattle.std.specs.Prelude.{◌≡◌, ◌++◌, [], true, string_bytes, IfErr, IfOk, OnOk};
 ghost use Rattle.std.specs.Io.KnownBytes.{IsAtEnd};
 ghost use Rattle.std.specs.List.{flat_map};
-ghost use Rattle.mencius_app.specs.Failures.{ExplainsAs, Fails, FailsReading};
-ghost use Rattle.mencius_app.specs.Input.{HasFault, unless_long};
+ghost use Rattle.mencius_app.specs.Failures.{Fails, FailsToMake, explained_as};
 ghost use Rattle.mencius_app.specs.Replay.{salt_of_events};
 ghost use Rattle.mencius_app.specs.States.{server_state, state_task, state_text};
 ghost use Rattle.mencius_app.specs.Tasks.{AsksLittle, AsksReader, IsOutput, Writes, streams};
 ghost use Rattle.mencius_base.specs.Members.{IsMember, numbers_below};
 ghost use Rattle.mencius_cluster.specs.Salt.{hasher_with};
 ghost use Rattle.mencius_cluster.specs.State.{trace_of};
-ghost use Rattle.mencius_input.specs.Scenario.{scenario};
 
 use crate::input::read_input;
 use crate::output::{Output, deliver};
@@ -36,7 +34,7 @@ pub fn state<R: Source, W: Sink>(alloc: Global, source: &mut R, sink: &mut W) ->
         (W.state sink.old) (W.state sink.new)) true) }
 
     // The cause of a fault. In every case, the use of the reader and the writer is limited.
-    ensures fault { IfErr result (Fails state_task (ExplainsAs Kind.Replay) (streams (R.state source.old) (R.state source.new)
+    ensures fault { IfErr result (Fails (explained_as Kind.Replay state_task) (streams (R.state source.old) (R.state source.new)
         (W.state sink.old) (W.state sink.new))) }
     ensures asked { AsksLittle (streams (R.state source.old) (R.state source.new)
         (W.state sink.old) (W.state sink.new)) }
@@ -49,8 +47,7 @@ pub fn state<R: Source, W: Sink>(alloc: Global, source: &mut R, sink: &mut W) ->
 fn read_state<R: Source>(alloc: Global, source: &mut R) -> Result<Output, Failure>
     ensures end { OnOk result (IsAtEnd (R.state source.new).bytes) }
     ensures made { IfOk result (IsOutput state_task (R.state source.old).bytes) }
-    ensures fault { IfErr result (FailsReading (HasFault (unless_long scenario)) (ExplainsAs Kind.Replay)
-        (R.state source.old) (R.state source.new)) }
+    ensures fault { IfErr result (FailsToMake (explained_as Kind.Replay state_task) (R.state source.old) (R.state source.new)) }
     ensures asked { AsksReader (R.state source.old) (R.state source.new) }
 {
     let scenario = read_input(alloc, source)?;

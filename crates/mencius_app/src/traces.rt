@@ -2,8 +2,7 @@
 
 ghost use Rattle.std.specs.Prelude.{◌≡◌, ◌++◌, ◌∷◌, [], true, string_bytes, IfErr, IfOk, OnOk};
 ghost use Rattle.std.specs.Io.KnownBytes.{IsAtEnd};
-ghost use Rattle.mencius_app.specs.Failures.{ExplainsAs, Fails, FailsReading};
-ghost use Rattle.mencius_app.specs.Input.{HasFault, unless_long};
+ghost use Rattle.mencius_app.specs.Failures.{Fails, FailsToMake, explained_as};
 ghost use Rattle.mencius_app.specs.Replay.{salt_of_events};
 ghost use Rattle.mencius_app.specs.Trace.{chosen_text, trace_task};
 ghost use Rattle.mencius_app.specs.Tasks.{AsksLittle, AsksReader, IsOutput, Writes, streams};
@@ -12,7 +11,6 @@ ghost use Rattle.mencius_cluster.specs.State.{trace_of};
 ghost use Rattle.mencius_model.specs.Outcomes.{trace_from};
 ghost use Rattle.mencius_trace.specs.LastLines.{events_text, view_text};
 ghost use Rattle.mencius_trace.specs.Suggestions.{suggested_instances};
-ghost use Rattle.mencius_input.specs.Scenario.{scenario};
 
 use crate::input::read_input;
 use crate::output::{Output, deliver};
@@ -40,7 +38,7 @@ pub fn trace<R: Source, W: Sink>(
         (W.state sink.old) (W.state sink.new)) true) }
 
     // The cause of a fault. In every case, the use of the reader and the writer is limited.
-    ensures fault { IfErr result (Fails (trace_task view.now) (ExplainsAs Kind.Replay) (streams (R.state source.old) (R.state source.new)
+    ensures fault { IfErr result (Fails (explained_as Kind.Replay (trace_task view.now)) (streams (R.state source.old) (R.state source.new)
         (W.state sink.old) (W.state sink.new))) }
     ensures asked { AsksLittle (streams (R.state source.old) (R.state source.new)
         (W.state sink.old) (W.state sink.new)) }
@@ -57,8 +55,7 @@ pub(crate) fn read_trace<R: Source>(
 ) -> Result<Output, Failure>
     ensures end { OnOk result (IsAtEnd (R.state source.new).bytes) }
     ensures made { IfOk result (IsOutput (trace_task view.now) (R.state source.old).bytes) }
-    ensures fault { IfErr result (FailsReading (HasFault (unless_long scenario)) (ExplainsAs Kind.Replay)
-        (R.state source.old) (R.state source.new)) }
+    ensures fault { IfErr result (FailsToMake (explained_as Kind.Replay (trace_task view.now)) (R.state source.old) (R.state source.new)) }
     ensures asked { AsksReader (R.state source.old) (R.state source.new) }
 {
     let scenario = read_input(alloc, source)?;

@@ -1,15 +1,13 @@
 -- A call over bytes in memory ends as a call of the program does, if all of its texts were written.
 use Rattle.std.specs.Prelude.{IfOk}
-use Rattle.std.proofs.Common.{◌≡◌, ◌≢◌, ◌⊎◌, ◌≤◌, ◌++◌, ◌∙◌, ℕ, Bool, false, List, [], Some, Result, Ok, Err, ap, subst, sym, arith, append-nil, inl, inr}
+use Rattle.std.proofs.Common.{◌≡◌, ◌⊎◌, ◌≤◌, ◌∙◌, ℕ, Bool, List, [], Some, Result, Ok, Err, ap, ap₂, subst, sym, arith, inl, inr}
 use Rattle.clap.specs.Words.{Text}
 use Rattle.mencius_io.specs.Streams.{HasFailed, StreamState}
-use Rattle.mencius_app.specs.Calls.{Complains, EndsCall, IsComplaint, IsUnread}
-use Rattle.mencius_app.specs.Ending.{lines_of_ending}
-use Rattle.mencius_app.specs.Tasks.{streams}
+use Rattle.mencius_app.specs.Calls.{IsProgramCall, call_streams}
+use Rattle.mencius_app.specs.Tasks.{StreamUse, used}
 use Rattle.mencius_app.specs.declared.ending.Ending.{Ending}
-use Rattle.mencius_app.specs.declared.ending.Ending.TheVariants.{BadCommandLine, BoardFailed}
 use Rattle.mencius_exports.specs.declared.call.Called.{Called}
-use Rattle.mencius_exports.specs.Calls.{IsEndOf}
+use Rattle.mencius_exports.specs.Calls.{gets_text}
 
 -- the state of a stream with known bytes and this number of failed calls
 abbrev pub of : List ℕ → ℕ → StreamState
@@ -24,37 +22,29 @@ pub written : {X : Type 0} (old new : ℕ) → new ≤ 0 → X ⊎ HasFailed old
 written old new none (inl x) = x
 written old new none (inr failed) = absurd (none_failed old new none failed)
 
--- the streams of a call before and after it, and the numbers of failed writes
-module _ (arguments : List Text) (input left before out err_0 err_1 err : List ℕ)
-    (w_0 w_1 e_0 e_1 : ℕ) (is_asked : Bool) (ending : Ending) (before_is : before ≡ []) (err_is : err_0 ≡ [])
-    (w_none : w_0 ≡ 0) (w_still : w_1 ≡ 0) (e_still : e_1 ≡ 0) (last : err ≡ err_1 ++ lines_of_ending ending)
-  where
-    complained : ending ≡ BadCommandLine → Complains arguments (of err_0 e_0) (of err_1 e_1) → IsComplaint arguments err
-    complained is told =
-        let first : err_1 ≡ err_0 ++ told.0 = written e_0 e_1 (omega (arith, e_still)) told.2.1 in
-        let bare : err ≡ err_1 ++ [] = subst (λ d. err ≡ err_1 ++ lines_of_ending d) is last in
-        subst (IsComplaint arguments) (sym (bare ∙ (append-nil err_1 ∙ (first ∙ ap (λ e. e ++ told.0) err_is)))) told.1
+-- one stream has the states of another one in a call, and stays the same if the other one does
+abbrev pub Follows : StreamUse → StreamUse → Type 0
+Follows u v = (u.state u.old ≡ v.state v.old) × (u.state u.new ≡ v.state v.new) × (u.new ≡ u.old → v.new ≡ v.old)
 
-    pub call_ended : EndsCall arguments (streams (of input 0) (of left 0) (of before w_0) (of out w_1)) ending
-        → ending ≢ BoardFailed → (IsUnread arguments ending → is_asked ≡ false)
-        → (ending ≡ BadCommandLine → out ≡ before)
-        → (ending ≡ BadCommandLine → Complains arguments (of err_0 e_0) (of err_1 e_1))
-        → (ending ≢ BadCommandLine → err_1 ≡ err_0)
-        → IsEndOf arguments input ending out err is_asked
-    call_ended call no_board unread unwritten complaint quiet = record {
-      call = (
-        left,
-        subst (λ o. EndsCall arguments (streams (of input 0) (of left 0) (of o 0) (of out 0)) ending) before_is
-            (subst (λ n. EndsCall arguments (streams (of input 0) (of left 0) (of before n) (of out 0)) ending) w_none
-            (subst (λ n. EndsCall arguments (streams (of input 0) (of left 0) (of before w_0) (of out n)) ending) w_still
-            call)),
-      );
-      no_board = no_board;
-      unread = unread;
-      unwritten = λ is. unwritten is ∙ before_is;
-      complaint = λ is. complained is (complaint is);
-      quiet = λ other. last ∙ ap (λ e. e ++ lines_of_ending ending) (quiet other ∙ err_is);
-    }
+-- a text in memory is an empty writer if no write failed
+pub text_follows : {T : Type 0} (bytes : T → List ℕ) (failures : T → ℕ) (old new : T) → bytes old ≡ []
+    → failures old ≡ 0 → failures new ≡ 0
+    → Follows (used (λ text. of (bytes text) (failures text)) old new) (gets_text (bytes new))
+text_follows bytes failures old new empty none still =
+    (ap₂ of empty none, ap (of (bytes new)) still, λ same. ap bytes same ∙ empty)
+
+-- a call of the program is also one over streams that follow its own
+pub followed : (arguments : List Text) (ending : Ending) (source sink errors then_source then_sink then_errors : StreamUse)
+    → Follows source then_source → Follows sink then_sink → Follows errors then_errors
+    → IsProgramCall arguments (call_streams source sink errors) ending
+    → IsProgramCall arguments (call_streams then_source then_sink then_errors) ending
+followed arguments ending source sink errors then_source then_sink then_errors r w e h = record {
+  call = rw (r.0, r.1, w.0, w.1) at h.call;
+  unread = λ is. r.2 (h.unread is);
+  unwritten = λ is. w.2 (h.unwritten is);
+  complaint = rw (e.0, e.1) at h.complaint;
+  quiet = λ other. e.2 (h.quiet other);
+}
 
 -- the result of a call has a property if it has this property whenever all of its texts were written
 pub ended_call : {E : Type 0} (IsSuchCall : ℕ → List ℕ → List ℕ → Bool → Type 0) (call : Result Called E)

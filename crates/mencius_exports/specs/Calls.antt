@@ -3,13 +3,12 @@ use Rattle.std.specs.Prelude.{◌≡◌, ◌≢◌, ◌⊎◌, ◌<◌, ◌≤�
 use Rattle.clap.specs.Words.{Text}
 use Rattle.mencius_io.specs.Streams.{StreamState}
 use Rattle.mencius_io.specs.declared.failure.Failure.{Failure}
-use Rattle.mencius_input.specs.declared.kind.Kind.TheVariants.{Replay}
-use Rattle.mencius_app.specs.Calls.{EndsCall, IsComplaint, IsUnread}
+use Rattle.mencius_app.specs.Calls.{IsProgramCall, call_streams}
 use Rattle.mencius_app.specs.Ending.{failure_in, lines_of_ending, status_of, status_of_ending}
-use Rattle.mencius_app.specs.Failures.{ExplainsAs, Fails}
+use Rattle.mencius_app.specs.Failures.{Fails}
 use Rattle.mencius_app.specs.Replay.{IsMadeOf}
 use Rattle.mencius_app.specs.States.{state_task, state_text}
-use Rattle.mencius_app.specs.Tasks.{Streams, streams}
+use Rattle.mencius_app.specs.Tasks.{StreamUse, Streams, streams, used}
 use Rattle.mencius_app.specs.declared.ending.Ending.{Ending}
 use Rattle.mencius_app.specs.declared.ending.Ending.TheVariants.{Done, Refused, BadCommandLine, Failed, BoardFailed}
 use Rattle.mencius_app.specs.declared.fault.AppFault.TheVariants.{NoMemory}
@@ -34,20 +33,24 @@ words_in bytes = words_from [] bytes
 abbrev pub of_bytes : List ℕ → StreamState
 of_bytes bytes = record { bytes = Some bytes; failures = 0 }
 
--- the streams of a call. The reader has this input before the call and `left` after it, and the empty writer gets the
--- printed text
-abbrev pub in_memory : List ℕ → List ℕ → List ℕ → Streams
-in_memory input left printed = streams (of_bytes input) (of_bytes left) (of_bytes []) (of_bytes printed)
+-- a reader of this input, with the bytes that are left after the call, and whether it was read
+abbrev pub reads_input : List ℕ → List ℕ → Bool → StreamUse
+reads_input input left is_asked = used {List ℕ × Bool} (λ x. of_bytes x.0) (input, false) (left, is_asked)
 
--- a call with these arguments and this input may end in this way, with these two texts, each complete. No board fails
+-- an empty writer that gets this text
+abbrev pub gets_text : List ℕ → StreamUse
+gets_text text = used of_bytes [] text
+
+-- a call with these arguments and this input may end in this way, with these two texts, each complete. It is a call of
+-- the program, without a board. The lines of its ending follow what it wrote to standard error
 pub record IsEndOf (arguments : List Text) (input : List ℕ) (ending : Ending) (printed said : List ℕ) (is_asked : Bool)
     : Type 0 where
-  pub call : (left : List ℕ) × EndsCall arguments (in_memory input left printed) ending
+  pub left : List ℕ
+  pub told : List ℕ
+  pub call : IsProgramCall arguments
+      (call_streams (reads_input input left is_asked) (gets_text printed) (gets_text told)) ending
   pub no_board : ending ≢ BoardFailed
-  pub unread : IsUnread arguments ending → is_asked ≡ false
-  pub unwritten : ending ≡ BadCommandLine → printed ≡ []
-  pub complaint : ending ≡ BadCommandLine → IsComplaint arguments said
-  pub quiet : ending ≢ BadCommandLine → said ≡ lines_of_ending ending
+  pub says : said ≡ told ++ lines_of_ending ending
 
 -- a call with these arguments and this input may have this exit status and these two texts
 abbrev pub IsCall : List Text → List ℕ → ℕ → List ℕ → List ℕ → Bool → Type 0
@@ -61,12 +64,16 @@ abbrev pub ending_of_state : {T : Type 0} → Result T Failure → Ending
 ending_of_state (Ok done) = Done
 ending_of_state (Err failure) = Failed failure
 
+-- the states of a reader of this input, with `left` after the call, and of an empty writer that gets the text
+abbrev pub in_memory : List ℕ → List ℕ → List ℕ → Streams
+in_memory input left printed = streams (of_bytes input) (of_bytes left) (of_bytes []) (of_bytes printed)
+
 -- a call for the state after this scenario may end in this way, with these two texts, each complete
 pub record IsEndOfState (input : List ℕ) (ending : Ending) (printed said : List ℕ) : Type 0 where
   pub done : ending ≡ Done → IsMadeOf state_text (Some input) printed
   pub no_other : (ending ≢ Refused) × (ending ≢ BadCommandLine) × (ending ≢ BoardFailed)
   pub failed : (left : List ℕ)
-      × IfSome (failure_in ending) (Fails state_task (ExplainsAs Replay) (in_memory input left printed))
+      × IfSome (failure_in ending) (Fails state_task (in_memory input left printed))
   pub told : said ≡ lines_of_ending ending
 
 -- a call for the state after this scenario may have this exit status and these two texts. It always reads the scenario

@@ -1,5 +1,5 @@
 -- A call whose arguments do not request a task ends as the definitions say.
-use Rattle.mencius_app.proofs.Words.{ReadFailed, ◌≡◌, ◌≢◌, ◌⊎◌, ◌≤◌, ◌+◌, ◌∙◌, [], inl, inr, ℕ, true, false, List, Some, None, IfSome, refl, sym, subst, Appends, Keeps, IfSome_then, IsAmong, Text, HasFailed, StreamState, WritesFront, most_failed_calls, Failure, WriteFailed, NoMemory, are_texts, faults, line_of, task_in}
+use Rattle.mencius_app.proofs.Words.{◌≡◌, ◌≢◌, ◌⊎◌, ◌≤◌, ◌+◌, ◌∙◌, inl, inr, ℕ, true, false, List, Some, None, IfSome, refl, ap, sym, subst, Appends, IfSome_then, IsAmong, Text, HasFailed, StreamState, WritesFront, most_failed_calls, Failure, WriteFailed, NoMemory, are_texts, faults, line_of, task_in}
 use Rattle.clap.specs.declared.error.kind.ErrorKind.{ErrorKind}
 use Rattle.clap.specs.declared.error.kind.ErrorKind.TheVariants.{OutOfMemory}
 use Rattle.mencius_command_line.specs.Help.{shown_for}
@@ -8,8 +8,8 @@ use Rattle.mencius_app.specs.Ending.{failure_in}
 use Rattle.mencius_app.specs.Tasks.{IsCause, Streams, streams}
 use Rattle.mencius_app.specs.declared.ending.Ending.{Ending}
 use Rattle.mencius_app.specs.declared.ending.Ending.TheVariants.{Done, Refused, BadCommandLine, BoardFailed}
-use Rattle.mencius_app.proofs.inputs.Inputs.{if_none, no_other}
-use Rattle.mencius_app.proofs.inputs.TaskEnds.{asks_nothing, keeps}
+use Rattle.mencius_app.proofs.inputs.Inputs.{if_none, own_failure}
+use Rattle.mencius_app.proofs.inputs.TaskEnds.{asks_nothing, unwritten, write_cause}
 
 -- a call whose arguments have an error of this kind, or that ran out of memory, ends as the definitions say
 module _ {W : Type 0} (state_of : W → StreamState) (arguments : List Text) (kind : ErrorKind) (state : StreamState)
@@ -36,20 +36,12 @@ module _ {W : Type 0} (state_of : W → StreamState) (arguments : List Text) (ki
         ⊎ ((failure.fault ≡ NoMemory) × (full ≡ empty)))
 
     cause_of : (failure : Failure) → IsAnswerFailure failure → IsCause (call_task arguments) s failure.fault
-    cause_of failure (none, inl (broken, failed, text, shown, front)) = record {
-      bad_input = λ bad. absurd ((no_other failure.fault bad).1 broken);
-      read_failed = λ e. (let both : WriteFailed ≡ ReadFailed = sym broken ∙ e in absurd (cc));
-      write_failed = λ _. failed;
-      front = λ _. (text, true, inl (is_shown text shown), front);
-      nothing = λ other. absurd (other broken);
-    }
-    cause_of failure (none, inr (memory, same)) = record {
-      bad_input = λ bad. absurd ((no_other failure.fault bad).2 memory);
-      read_failed = λ e. (let both : NoMemory ≡ ReadFailed = sym memory ∙ e in absurd (cc));
-      write_failed = λ e. (let both : NoMemory ≡ WriteFailed = sym memory ∙ e in absurd (cc));
-      front = λ e. (let both : NoMemory ≡ WriteFailed = sym memory ∙ e in absurd (cc));
-      nothing = λ _. subst (λ w. Keeps (state_of empty).bytes (state_of w).bytes) (sym same) (keeps (state_of empty).bytes);
-    }
+    cause_of failure (none, inl (broken, failed, text, shown, front)) =
+        subst (IsCause (call_task arguments) s) (sym broken)
+        (write_cause (call_task arguments) s text true (inl (is_shown text shown)) failed front)
+    cause_of failure (none, inr (memory, same)) =
+        (unwritten (record { task = call_task arguments; Tells = λ _ _ _. ⊥ }) s failure
+        (own_failure failure (memory, none)) (ap state_of same)).cause
 
     pub answered : (ending ≡ Done → (text : List ℕ) × (shown_for kind arguments ≡ Some text)
         × Appends (state_of empty).bytes (state_of full).bytes text)

@@ -59,6 +59,15 @@ own_cause {F} {old} {new} {fault} memory = record {
   no_writer = λ e. let same = sym memory ∙ e in absurd (cc);
 }
 
+-- a fault that the input has is a cause
+pub input_cause : {F : Option (List ℕ) → IoFault → Type 0} {old new : StreamState} {fault : IoFault}
+    → IsBadInput fault → F old.bytes fault → IsReadingCause F old new fault
+input_cause {F} {old} {new} {fault} bad has = record {
+  bad_input = λ _. has;
+  read_failed = λ e. absurd ((no_other fault bad).0 e);
+  no_writer = (no_other fault bad).1;
+}
+
 pub if_none : {T : Type 0} (P : T → Type 0) (o : Option T) → o ≡ None → IfSome o P
 if_none P None e = tt
 if_none P (Some x) e = absurd (cc)
@@ -102,12 +111,9 @@ module _ {Y : Type 0} (read : List ℕ → Result Y IoFault)
   misread_cause : (new : StreamState) (fault : IoFault) → (fault ≡ NoMemory) ⊎ (read text ≡ Err fault)
       → IsReadingCause (HasFault (unless_long read)) old new fault
   misread_cause new fault (inl memory) = own_cause memory
-  misread_cause new fault (inr e) = record {
-    bad_input = λ _. IfSome_then old.bytes whole (λ all same. subst (λ input. unless_long read input ≡ Err fault)
-        (is ∙ same) (says_by_bytes read text fits ∙ e));
-    read_failed = λ broken. absurd ((no_other fault (bad text fault e)).0 broken);
-    no_writer = (no_other fault (bad text fault e)).1;
-  }
+  misread_cause new fault (inr e) =
+      input_cause (bad text fault e) (IfSome_then old.bytes whole
+      (λ all same. subst (λ input. unless_long read input ≡ Err fault) (is ∙ same) (says_by_bytes read text fits ∙ e)))
 
   pub misread : (Tells : Explanation) (new : StreamState) (failure : Failure)
       → (failure.fault ≡ NoMemory) ⊎ (read text ≡ Err failure.fault)

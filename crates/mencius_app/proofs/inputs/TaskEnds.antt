@@ -1,9 +1,9 @@
 -- A task writes the text that it made, and a call ends as its task does.
-use Rattle.mencius_app.proofs.Words.{NoMemory, ReadFailed, BadLimit, BadShape, NotJson, not, OnOk, IsErrAnd, IfSome_then, ◌≡◌, ◌≢◌, ◌+◌, ◌&&◌, ◌∙◌, arith, inl, inr, ℕ, Bool, true, false, cond, List, [], Option, Some, None, IfSome, IfOk, IfErr, Result, Ok, Err, string_bytes, refl, sym, subst, ap, Keeps, Text, StreamState, TakesAtMost, most_bytes, Failure, IoFault, WriteFailed, TaskState, asked_judge, faults, line_of, task_in, ◌⊎◌}
-use Rattle.mencius_app.specs.Calls.{AsksAs, AsksFor, AsksReaderAs, EndsCall, EndsTask, IfEnded, IfRun, IsUnread, call_task, explanation_of, is_reporting, task_of, task_with}
+use Rattle.mencius_app.proofs.Words.{NoMemory, ReadFailed, BadLimit, BadShape, NotJson, not, OnOk, IsErrAnd, IfSome_then, ◌≡◌, ◌≢◌, ◌+◌, ◌&&◌, ◌∙◌, arith, inl, inr, ℕ, Bool, true, false, cond, List, [], Option, Some, None, IfSome, IfOk, IfErr, Result, Ok, Err, string_bytes, refl, sym, subst, ap, Keeps, Text, StreamState, HasFailed, WritesFront, TakesAtMost, most_bytes, Failure, IoFault, WriteFailed, TaskState, asked_judge, faults, line_of, task_in, ◌⊎◌}
+use Rattle.mencius_app.specs.Calls.{AsksAs, AsksFor, AsksReaderAs, BeginsCall, BeginsTask, CallStreams, EndsCall, EndsTask, IsProgramCall, IsUnread, call_task, explained_task, is_reporting, task_of, task_with}
 use Rattle.mencius_app.specs.Ending.{ending_of, ending_of_run, failure_in}
-use Rattle.mencius_app.specs.Failures.{ExplainsIn, Explanation, Fails, FailsReading, UnlessBoard}
-use Rattle.mencius_app.specs.Tasks.{Delivers, IsCause, IsOutput, Streams, Task, Writes, streams}
+use Rattle.mencius_app.specs.Failures.{ExplainedTask, ExplainsIn, Fails, FailsToMake, RunFails, RunFailsToMake}
+use Rattle.mencius_app.specs.Tasks.{Delivers, IsCause, IsOutput, Streams, Task, Writes, states_of, streams}
 use Rattle.mencius_app.specs.declared.call.Begun.{Begun}
 use Rattle.mencius_app.specs.declared.call.Begun.TheVariants.{Ended, Run}
 use Rattle.mencius_app.specs.declared.call.RunOptions.{RunOptions}
@@ -19,14 +19,14 @@ use Rattle.mencius_app.specs.Fault.{app_fault, fault_of_run}
 
 -- ---- writing
 
-pub keeps : (known : Option (List ℕ)) → Keeps known known
+keeps : (known : Option (List ℕ)) → Keeps known known
 keeps None = tt
 keeps (Some bytes) = refl
 
 -- if a task fails while reading and keeps the output as it was, this is a failure of the task
-unwritten : (t : Task) (Tells : Explanation) (s : Streams) (failure : Failure)
-    → FailsReading t.IsBadInput Tells s.reader s.reader_now failure → s.writer_now ≡ s.writer → Fails t Tells s failure
-unwritten t Tells s failure h same = record {
+pub unwritten : (t : ExplainedTask) (s : Streams) (failure : Failure) → FailsToMake t s.reader s.reader_now failure
+    → s.writer_now ≡ s.writer → Fails t s failure
+unwritten t s failure h same = record {
   cause = record {
     bad_input = h.cause.bad_input;
     read_failed = h.cause.read_failed;
@@ -35,6 +35,18 @@ unwritten t Tells s failure h same = record {
     nothing = λ _. subst (λ w. Keeps s.writer.bytes w.bytes) (sym same) (keeps s.writer.bytes);
   };
   words = h.words;
+}
+
+-- a failed writer is a cause after a prefix of one of the task's texts
+pub write_cause : (t : Task) (s : Streams) (text : List ℕ) (is_clean : Bool) → t.IsText s.reader.bytes text is_clean
+    → HasFailed s.writer.failures s.writer_now.failures → WritesFront s.writer.bytes s.writer_now.bytes text
+    → IsCause t s WriteFailed
+write_cause t s text is_clean is failed front = record {
+  bad_input = λ bad. absurd ((no_other WriteFailed bad).1 refl);
+  read_failed = λ e. absurd (cc);
+  write_failed = λ _. failed;
+  front = λ _. (text, is_clean, is, front);
+  nothing = λ other. absurd (other refl);
 }
 
 -- a task that made a text or failed ends as the definitions say
@@ -47,48 +59,41 @@ delivered t from to state old new (Ok output) (Err failure) is given = tt
 delivered t from to state old new (Err failure) r is given =
     subst (λ x. IfOk x (Writes t (streams from to (state old) (state new)))) (sym given) tt
 
-module _ (t : Task) (Tells : Explanation) (from to : StreamState) {W : Type 0} (state : W → StreamState) (old new : W) where
-  pub undelivered : (made : Result Output Failure) (r : Result Bool Failure) → IfOk made (IsOutput t from.bytes)
-      → IfErr made (FailsReading t.IsBadInput Tells from to) → Delivers made (state old) (state new) r
-      → IfErr made (λ _. new ≡ old) → IfErr r (Fails t Tells (streams from to (state old) (state new)))
+module _ (t : ExplainedTask) (from to : StreamState) {W : Type 0} (state : W → StreamState) (old new : W) where
+  pub undelivered : (made : Result Output Failure) (r : Result Bool Failure) → IfOk made (IsOutput t.task from.bytes)
+      → IfErr made (FailsToMake t from to) → Delivers made (state old) (state new) r
+      → IfErr made (λ _. new ≡ old) → IfErr r (Fails t (streams from to (state old) (state new)))
   undelivered (Ok output) (Ok is_clean) is fails given kept = tt
   undelivered (Ok output) (Err failure) is fails given kept =
-      subst (Fails t Tells (streams from to (state old) (state new))) (sym given.0) (record {
-        cause = record {
-          bad_input = λ bad. absurd ((no_other WriteFailed bad).1 refl);
-          read_failed = λ e. absurd (cc);
-          write_failed = λ _. given.1;
-          front = λ _. (string_bytes output.text, output.is_clean, is, given.2);
-          nothing = λ other. absurd (other refl);
-        };
+      subst (Fails t (streams from to (state old) (state new))) (sym given.0) (record {
+        cause = write_cause t.task (streams from to (state old) (state new)) (string_bytes output.text) output.is_clean is
+            given.1 given.2;
         words = tt;
       })
   undelivered (Err failure) r is fails given kept =
-      subst (λ x. IfErr x (Fails t Tells (streams from to (state old) (state new)))) (sym given)
-      (unwritten t Tells (streams from to (state old) (state new)) failure fails (ap state kept))
+      subst (λ x. IfErr x (Fails t (streams from to (state old) (state new)))) (sym given)
+      (unwritten t (streams from to (state old) (state new)) failure fails (ap state kept))
 
   -- the failure of a task that passes it on
   pub passed_on : {T : Type 0} (made : Result Output Failure) (q : Result T Failure) (failure : Failure)
-      → IsErrAnd q (λ e. e ≡ failure) → IfOk made (IsOutput t from.bytes)
-      → IfErr made (FailsReading t.IsBadInput Tells from to) → Delivers made (state old) (state new) (Err failure)
-      → IfErr made (λ _. new ≡ old) → IfErr q (Fails t Tells (streams from to (state old) (state new)))
+      → IsErrAnd q (λ e. e ≡ failure) → IfOk made (IsOutput t.task from.bytes)
+      → IfErr made (FailsToMake t from to) → Delivers made (state old) (state new) (Err failure)
+      → IfErr made (λ _. new ≡ old) → IfErr q (Fails t (streams from to (state old) (state new)))
   passed_on made q failure passed is fails given kept =
       at_err q failure _ passed (undelivered made (Err failure) is fails given kept)
 
 -- if a run fails while reading and keeps the output as it was, this is a failure of its task, unless the board failed
-pub unwritten_run : (t : Task) (Tells : Explanation) (old new writer : StreamState) (failed : RunFailure)
-    → UnlessBoard (FailsReading t.IsBadInput Tells old new) failed
-    → UnlessBoard (Fails t Tells (streams old new writer writer)) failed
-unwritten_run t Tells old new writer (run.Failed failure) h =
-    unwritten t Tells (streams old new writer writer) failure h refl
-unwritten_run t Tells old new writer run.BoardFailed h = tt
+pub unwritten_run : (t : ExplainedTask) (old new writer : StreamState) (failed : RunFailure) → RunFailsToMake t old new failed
+    → RunFails t (streams old new writer writer) failed
+unwritten_run t old new writer (run.Failed failure) h = unwritten t (streams old new writer writer) failure h refl
+unwritten_run t old new writer run.BoardFailed h = tt
 
 -- ---- a task
 
 -- a task that wrote its text, or failed with a cause, has the ending of this result
 pub task_ended : (task : TaskState) (s : Streams) (is_reported : Bool) (r : Result Bool Failure)
     → is_reported ≡ is_reporting task → IfOk r (Writes (task_of task) s)
-    → IfErr r (Fails (task_of task) (explanation_of task) s) → EndsTask task s (ending_of is_reported r)
+    → IfErr r (Fails (explained_task task) s) → EndsTask task s (ending_of is_reported r)
 task_ended task s is_reported (Ok is_clean) reported wrote fails =
     by_test (is_reported && not is_clean) (ap (λ x. x && not is_clean) reported) where
       by_test : (a : Bool) → a ≡ (is_reporting task && not is_clean) → EndsTask task s (cond a Refused Done)
@@ -100,18 +105,18 @@ task_ended task s is_reported (Err failure) reported wrote fails = fails
 pub task_done : {W : Type 0} (writer : W → StreamState) (old new : W) (task : TaskState) (from to : StreamState)
     (is_reported : Bool) (made : Result Output Failure) (r : Result Bool Failure) → is_reported ≡ is_reporting task
     → IfOk made (IsOutput (task_of task) from.bytes)
-    → IfErr made (FailsReading (task_of task).IsBadInput (explanation_of task) from to)
+    → IfErr made (FailsToMake (explained_task task) from to)
     → Delivers made (writer old) (writer new) r → IfErr made (λ _. new ≡ old)
     → EndsTask task (streams from to (writer old) (writer new)) (ending_of is_reported r)
 task_done writer old new task from to is_reported made r reported is fails given kept =
     task_ended task (streams from to (writer old) (writer new)) is_reported r reported
     (delivered (task_of task) from to writer old new made r is given)
-    (undelivered (task_of task) (explanation_of task) from to writer old new made r is fails given kept)
+    (undelivered (explained_task task) from to writer old new made r is fails given kept)
 
 -- the ending of a run follows from its result, with a text that is always clean or a failed board
 pub run_ended : (options : RunOptions) (s : Streams) {T : Type 0} (r : Result T RunFailure)
     → OnOk r (Writes (task_of (task_with options)) s true)
-    → IfErr r (UnlessBoard (Fails (task_of (task_with options)) (explanation_of (task_with options)) s))
+    → IfErr r (RunFails (explained_task (task_with options)) s)
     → EndsTask (task_with options) s (ending_of_run r)
 run_ended options s (Ok x) wrote fails = (true, wrote, refl)
 run_ended options s (Err (run.Failed failure)) wrote fails = fails
@@ -153,7 +158,7 @@ module _ (arguments : List Text) (task : TaskState) (asks : AsksFor arguments ta
 
   explained : (ending : Ending) → EndsTask asked_task s ending
       → IfSome (failure_in ending) (λ failure. IfSome failure.words (λ words. (faults (line_of arguments) ≡ [])
-      × ExplainsIn (explanation_of asked_task) s.reader.bytes failure.fault (string_bytes words)))
+      × ExplainsIn (explained_task asked_task).Tells s.reader.bytes failure.fault (string_bytes words)))
   explained (Failed failure) h = IfSome_then failure.words h.words (λ words is. (asks.1, is))
   explained _ h = tt
 
@@ -179,16 +184,26 @@ module _ (arguments : List Text) (task : TaskState) (asks : AsksFor arguments ta
   call_reads ending ends (inl refused) = not_refused ending ends refused
   call_reads ending ends (inr some) = some asks.1
 
--- a property of an ending carries over to an ended call, and a property of options carries over to a run that is left
-pub ended_also : (begun : Begun) (P Q : Ending → Type 0) → ((ending : Ending) → P ending → Q ending) → IfEnded P begun
-    → IfEnded Q begun
-ended_also (Ended ending) P Q also h = also ending h
-ended_also (Run options) P Q also h = tt
+-- a call of the program does the requested task
+pub task_called : (arguments : List Text) (task : TaskState) (s : CallStreams) (ending : Ending) → AsksFor arguments task
+    → EndsTask task (states_of s.source s.sink) ending → AsksAs task (states_of s.source s.sink)
+    → (ending ≡ BoardFailed → s.sink.new ≡ s.sink.old) → s.errors.new ≡ s.errors.old → IsProgramCall arguments s ending
+task_called arguments task s ending asks ends limits failed same =
+    let refused = not_refused arguments task asks (states_of s.source s.sink) ending ends in
+    record {
+      call = call_ended arguments task asks (states_of s.source s.sink) ending ends limits;
+      unread = λ e. absurd (call_reads arguments task asks (states_of s.source s.sink) ending ends e);
+      unwritten = λ either. elim either [ inl e ↦ absurd (refused e) | inr e ↦ failed e ];
+      complaint = λ e. absurd (refused e);
+      quiet = λ _. same;
+    }
 
-pub run_also : (begun : Begun) (P Q : RunOptions → Type 0) → ((options : RunOptions) → P options → Q options)
-    → IfRun P begun → IfRun Q begun
-run_also (Ended ending) P Q also h = tt
-run_also (Run options) P Q also h = also options h
+pub task_begun : (arguments : List Text) (task : TaskState) (s : CallStreams) (begun : Begun) → AsksFor arguments task
+    → s.errors.new ≡ s.errors.old → BeginsTask task s.source s.sink begun → BeginsCall arguments s begun
+task_begun arguments task s (Ended ending) asks same (ends, limits, other) =
+    (task_called arguments task s ending asks ends limits (λ e. absurd (other e)) same, other)
+task_begun arguments task s (Run options) asks same (is, unread, unwritten) =
+    ((asks.0, asks.1, asks.2 ∙ is), unread, unwritten, same)
 
 -- ---- a reader that was not used
 
@@ -218,11 +233,11 @@ result_not_board (Err fault) cause is e =
     app_not_board cause (sym is ∙ same)
 
 -- a run failed because of its board, or its fault has a cause as the fault of any task does
-pub board_or_cause : (t : Task) (Tells : Explanation) (s : Streams) (failed : RunFailure)
-    → UnlessBoard (Fails t Tells s) failed → (fault_of_run failed ≡ app.BoardFailed)
-    ⊎ ((cause : IoFault) × (fault_of_run failed ≡ app_fault cause) × IsCause t s cause)
-board_or_cause t Tells s (run.Failed failure) h = inr (failure.fault, refl, h.cause)
-board_or_cause t Tells s run.BoardFailed h = inl refl
+pub board_or_cause : (t : ExplainedTask) (s : Streams) (failed : RunFailure) → RunFails t s failed
+    → (fault_of_run failed ≡ app.BoardFailed)
+    ⊎ ((cause : IoFault) × (fault_of_run failed ≡ app_fault cause) × IsCause t.task s cause)
+board_or_cause t s (run.Failed failure) h = inr (failure.fault, refl, h.cause)
+board_or_cause t s run.BoardFailed h = inl refl
 
 -- a run whose result is `BoardFailed` failed because of its board
 pub at_board : {T : Type 0} (r : Result T AppFault) (failed : RunFailure)

@@ -1,24 +1,16 @@
 -- Two texts that are written one after the other count as one text, and a lookup finds the text at its key.
 use Rattle.mencius_app.proofs.Words.{◌≡◌, ℕ, List, ◌++◌, length, Option, refl, ap, sym, ◌∙◌, arith, IsPrefix, Command, ClusterState, trace_of, longest_commands, value_at, ◌⊎◌, inl, inr, ◌+◌, ◌^◌, ◌<◌, ◌≤◌, take, subst, Result, Ok, Err, OnErr, OnOk, Appends, length-append, HasFailed, StreamState, WritesFront, most_failures}
 use Rattle.mencius_board.specs.Boards.{longest_of}
-use Rattle.mencius_model.proofs.trace.Prefixes.{prefix_whole}
 use Rattle.mencius_app.specs.Run.{text_at}
 use Rattle.std.proofs.KnownBytes.{Appends-trans}
 use Rattle.std.proofs.Math.Seq.{take-append-add}
 use Rattle.mencius_app.specs.Calls.{WritesOrFails}
 
--- the longest history of a board equals the longest history in the definitions
-longest_is : (x : ClusterState) → longest_of x ≡ longest_commands x.members (trace_of x)
-unfolding longest_of
-longest_is x = refl
-
--- if the list of a reader begins with the list that was shown and is equally long, the lookup finds the text at the key
-pub found_at : (x : ClusterState) (key : List ℕ) (shown last : List Command) (found : Option (List ℕ))
-    → shown ≡ longest_of x → IsPrefix shown last → length last ≡ length shown → found ≡ value_at key last
+-- a lookup in the longest history of a board finds the text that the commands of this history leave at the key
+pub found_at : (x : ClusterState) (key : List ℕ) (found : Option (List ℕ)) → found ≡ value_at key (longest_of x)
     → found ≡ text_at x key
-found_at x key shown last found is told count text =
-    let same : shown ≡ last = prefix_whole shown last told (omega (arith, count)) in
-    text ∙ ap (value_at key) (sym same ∙ is ∙ longest_is x)
+unfolding longest_of
+found_at x key found is = is
 
 -- a prefix of the second text, after the whole first text, is a prefix of both texts together
 pub front_behind : (old mid new : Option (List ℕ)) (xs ys : List ℕ) → Appends old mid xs → WritesFront mid new ys
