@@ -70,11 +70,8 @@ fn order_at(
     place: usize,
     other: usize,
 ) -> Ordering {
-    match (
-        configuration_at(configurations, place),
-        configuration_at(configurations, other),
-    ) {
-        (Some(one), Some(two)) => order(log, &one, &two),
+    match (configurations.get(place), configurations.get(other)) {
+        (Some(one), Some(two)) => order(log, one, two),
         _ => place.cmp(&other),
     }
 }
