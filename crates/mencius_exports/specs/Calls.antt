@@ -35,7 +35,7 @@ of_bytes bytes = record { bytes = Some bytes; failures = 0 }
 
 -- a reader of this input, with the bytes that are left after the call, and whether it was read
 abbrev pub reads_input : List ℕ → List ℕ → Bool → StreamUse
-reads_input input left is_asked = used {List ℕ × Bool} (λ x. of_bytes x.0) (input, false) (left, is_asked)
+reads_input input left is_asked = used {T = List ℕ × Bool} (λ x. of_bytes x.0) (input, false) (left, is_asked)
 
 -- an empty writer that gets this text
 abbrev pub gets_text : List ℕ → StreamUse
