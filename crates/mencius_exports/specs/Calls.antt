@@ -5,7 +5,8 @@ use Rattle.mencius_io.specs.Streams.{StreamState}
 use Rattle.mencius_io.specs.declared.failure.Failure.{Failure}
 use Rattle.mencius_app.specs.Calls.{IsProgramCall, call_streams}
 use Rattle.mencius_app.specs.Ending.{failure_in, lines_of_ending, status_of, status_of_ending}
-use Rattle.mencius_app.specs.Failures.{Fails}
+use Rattle.mencius_app.specs.Failures.{Fails, explained_as}
+use Rattle.mencius_input.specs.declared.kind.Kind.TheVariants.{Replay}
 use Rattle.mencius_app.specs.Replay.{IsMadeOf}
 use Rattle.mencius_app.specs.States.{state_task, state_text}
 use Rattle.mencius_app.specs.Tasks.{StreamUse, Streams, streams, used}
@@ -73,7 +74,7 @@ pub record IsEndOfState (input : List ℕ) (ending : Ending) (printed said : Lis
   pub done : ending ≡ Done → IsMadeOf state_text (Some input) printed
   pub no_other : (ending ≢ Refused) × (ending ≢ BadCommandLine) × (ending ≢ BoardFailed)
   pub failed : (left : List ℕ)
-      × IfSome (failure_in ending) (Fails state_task (in_memory input left printed))
+      × IfSome (failure_in ending) (Fails (explained_as Replay state_task) (in_memory input left printed))
   pub told : said ≡ lines_of_ending ending
 
 -- a call for the state after this scenario may have this exit status and these two texts. It always reads the scenario
