@@ -1,10 +1,19 @@
-"""The edits of a crate, which checks/edits tries: their files, the functions that they change, and the changed texts."""
+"""The edits of a crate, which checks/edits tries: their files, the functions that they change, and the changed texts.
+Also empties the other functions."""
 import glob
 import os
 import re
 from typing import NamedTuple
 
 from shared import fail
+
+# The proof files of a function, and a proof with a hole.
+PROOF_FILES = ("Answers.antt", "Invariants.antt", "Proof.antt")
+HOLE = """use Rattle.{crate}.proofs.{path}.Statement.{{statement}}
+
+pub {name}_spec : {{M : Type 1}} → statement M
+{name}_spec = ?
+"""
 
 # The beginning of a function and of an `impl` block, each with its indentation.
 FUNCTION = re.compile(r'( *)(?:pub(?:\([a-z]+\))? )?(?:const )?(?:extern "C" )?fn (\w+)')
@@ -114,3 +123,56 @@ def apply(crate, edit, texts):
             return None
         changed[file] = text.replace(old, new)
     return changed
+
+
+# ---- functions without their bodies
+
+def empty_others(crate, folder, kept):
+    """Empties the bodies of all functions in a copy of a crate, except those with the kept paths, and replaces their
+    proofs with holes. Returns the paths of the emptied ones. Constant functions and methods of traits stay as they are.
+    """
+    emptied = []
+    for place in glob.glob(f"{folder}/src/**/*.rt", recursive=True):
+        with open(place, encoding="utf-8") as opened:
+            lines = opened.read().split("\n")
+        found = [row for row in bodies(crate, os.path.relpath(place, folder), lines) if row[0] not in kept]
+        for path, first, last in reversed(found):
+            lines[first:last] = ["loop {}"]
+            write_hole(crate, folder, path)
+        with open(place, "w", encoding="utf-8") as opened:
+            opened.write("\n".join(lines))
+        emptied += [path for path, _, _ in found]
+    return emptied
+
+
+def bodies(crate, file, lines):
+    """The path of each function and method in a file, with the numbers of its body's first line and of the line after
+    its body. It relies on the layout of `rt fmt`, by which clauses are indented further than the function."""
+    block = None
+    for number, line in enumerate(lines):
+        begin = FUNCTION.match(line)
+        if not line.startswith((" ", "#", "/")) and line and not begin:
+            block = IMPL.match(line)
+        if not begin or "const fn" in line or line.endswith("}") or lines[number - 1].lstrip().startswith("#[cycle"):
+            continue
+        depth, name = begin[1], begin[2]
+        path = [*modules_of(file), name]
+        if depth:
+            if len(depth) != 4 or not block or block[1]:
+                continue
+            path = [*modules_of(file_of(crate, block[2])), block[2], name]
+        ends = re.compile(rf"{depth}(\S.*)?({{|{{}})$")
+        first = next(it for it in range(number, len(lines)) if ends.match(lines[it])) + 1
+        if not lines[first - 1].endswith("{}"):
+            yield "::".join(path), first, lines.index(depth + "}", first)
+
+
+def write_hole(crate, folder, path):
+    """Replaces the proof of a function with a hole."""
+    place = f"{folder}/proofs/{path.replace('::', '/')}"
+    os.makedirs(place, exist_ok=True)
+    for file in PROOF_FILES:
+        if os.path.exists(f"{place}/{file}"):
+            os.remove(f"{place}/{file}")
+    with open(f"{place}/Proof.antt", "w", encoding="utf-8") as opened:
+        opened.write(HOLE.format(crate=crate.name, path=path.replace("::", "."), name=path.rpartition("::")[2]))
