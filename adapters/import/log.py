@@ -1,7 +1,9 @@
-"""Writes the operations of a history as a log for `mencius judge`.
+"""Writes the operations of a history as a log for `mencius judge`, or for `mencius judge --clients`.
 
-The log has one server, which executes the operations in the order that a search found. If the search gave up, the
-operations of its key are at the end of the log, and no server executes them. So the verdict is not `ok`.
+For `mencius judge`, the log has one server, which executes the operations in the order that a search found. If the
+search gave up, the operations of its key are at the end of the log, and no server executes them. So the verdict is not
+`ok`. For `mencius judge --clients`, the log has only submissions and replies, because that judge searches for an order
+itself.
 """
 import json
 import re
@@ -48,10 +50,11 @@ def shown(text):
 
 
 class Log:
-    """The log of a history. Each part of the history is a list of operations that get an order by themselves."""
+    """The log of a history. Each part of the history is a list of operations that get an order by themselves. Without
+    parts, no operation gets an order."""
 
     def __init__(self, operations, parts, initial, limit):
-        self.initial = initial
+        self.initial, self.is_ordered = initial, bool(parts)
         # The map of the judge is empty at first, and its `cas` needs a text. So if a key begins with a text, or if a
         # `cas` names no text, a word stands for each text, and for none, and a first command sets it.
         operands = [text for op in operations for text in op.texts]
@@ -112,7 +115,8 @@ class Log:
             for key in dict.fromkeys(op.key for op in self.ids):
                 name = self.fresh_id(None)
                 yield f"submit {name} set {self.keys[key]} {self.texts[self.initial]}"
-                yield f"execute 0 {name}"
+                if self.is_ordered:
+                    yield f"execute 0 {name}"
                 yield f"reply {name} ok"
 
     def open_lines(self, part):
@@ -191,3 +195,8 @@ def log_of(operations, initial=None, limit=LIMIT_OF_STEPS, by_key=True):
     """The lines of the log, and the notes for the user. The operations are in the order in which they began."""
     log = Log(operations, parts_by_key(operations) if by_key else [operations], initial, limit)
     return log.lines(), log.notes
+
+
+def log_of_clients(operations, initial=None):
+    """The lines of the log for `mencius judge --clients`, and no notes."""
+    return Log(operations, [], initial, 0).lines(), []
