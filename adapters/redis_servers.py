@@ -7,6 +7,7 @@ from redis_client import Connection, ErrorReply, fields_of, host_and_port, reaso
 
 OLDEST = 5  # the first major version that replicates the effects of a script instead of the script
 QUICK = 1.0  # seconds for a server that may be stopped
+FIRST = 5.0  # seconds for a server that should be there, since its machine may be busy
 PATIENCE = 10.0  # seconds until a server must be back, or until a replica must have everything
 PAUSE = 0.05
 
@@ -27,7 +28,7 @@ def role_of(address):
 def check_version(address):
     """Raises Trouble unless a Redis server that can be tested is there."""
     try:
-        server = info(address, "server", 2)
+        server = info(address, "server", FIRST)
     except OSError as error:
         raise Trouble(f"{address}: {reason(error)}. Start the server, or correct HOST:PORT") from None
     except ErrorReply as error:
@@ -46,7 +47,7 @@ def check_roles(primary, replicas):
     end = time.monotonic() + PATIENCE
     while True:
         try:
-            about = {address: info(address, "replication", 2) for address in (primary, *replicas)}
+            about = {address: info(address, "replication", FIRST) for address in (primary, *replicas)}
         except (OSError, ErrorReply) as error:
             raise Trouble(f"INFO replication fails: {reason(error)}. Look at the logs of the servers") from None
         if about[primary].get("role") != "master":
