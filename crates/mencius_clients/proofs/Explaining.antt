@@ -22,9 +22,10 @@ use Rattle.mencius_clients.specs.declared.outcome.Outcome.TheVariants.{Goes}
 use Rattle.mencius_clients.specs.declared.outcome.Outcome.TheVariants as outcome
 use Rattle.mencius_clients.specs.declared.explanation.Explanation.{Explanation}
 use Rattle.mencius_clients.specs.declared.search.Search.{Search}
-use Rattle.mencius_clients.specs.Explained.{HasHeard, IsBroken, IsEnd, IsExplanation, heard}
+use Rattle.mencius_clients.specs.Explained.{HasHeard, IsBroken, IsEnd, IsExplanation, IsLinearizable, heard}
 use Rattle.mencius_clients.specs.ManyStates.{ComesAfterMany}
 use Rattle.mencius_clients.specs.Searched.{HasSearched, IsAfter}
+use Rattle.mencius_clients.proofs.Halving.{between_end}
 
 pub split_log : {A : Type 0} (xs : List A) (n : ℕ) (x : A) → slice_get xs n ≡ Some x → (back : List A) × (xs ≡ take n xs ++ x ∷ back)
 split_log [] n x e = absurd (cc)
@@ -53,16 +54,16 @@ get_at xs n x less is = slice_get-get_or xs n x less ∙ ap Some (sym is)
 pub ended_right : (log : List Observation) (line : ℕ) (o : Observation) (u later : Log) (s : Search) (ended : Outcome)
     (found : Option Explanation) → slice_get log line ≡ Some o → reverse log ≡ later ++ o ∷ u
     → u ≡ reverse (take line log) → IsEnd ended line found
-    → IsAfter (reverse log) (o ∷ u) log s ended → (most : ℕ)
+    → IsAfter (reverse log) (o ∷ u) log s ended → (most : ℕ) → line < length log → IsLinearizable (reverse (take line log))
     → (ended ≡ outcome.Configurations → ComesAfterMany u o most) → IfSome found (IsExplanation log most)
-ended_right log line o u later s Goes found at whole first is h most many =
+ended_right log line o u later s Goes found at whole first is h most less before many =
     subst (λ f. IfSome f (IsExplanation log most)) (sym is) tt
-ended_right log line o u later s outcome.Unexplained found at whole first is h most many =
-    subst (λ f. IfSome f (IsExplanation log most)) (sym is) h
-ended_right log line o u later s outcome.Waiting found at whole first is h most many =
+ended_right log line o u later s outcome.Unexplained found at whole first is h most less before many =
+    subst (λ f. IfSome f (IsExplanation log most)) (sym is) (between_end log line less before h)
+ended_right log line o u later s outcome.Waiting found at whole first is h most less before many =
     subst (λ f. IfSome f (IsExplanation log most)) (sym is)
     record { later = later; o = o; earlier = u; splits = record { whole = whole; there = at; first = first }; many = h }
-ended_right log line o u later s outcome.Configurations found at whole first is h most many =
+ended_right log line o u later s outcome.Configurations found at whole first is h most less before many =
     subst (λ f. IfSome f (IsExplanation log most)) (sym is)
     (o, at, subst (λ (v : Log). ComesAfterMany v o most) first (many refl))
 

@@ -1,45 +1,30 @@
 -- The first line with which a log has no linearization is between two counts of lines.
-use Rattle.std.proofs.Common.{◌≡◌, ◌<◌, ◌+◌, ℕ, zero, suc, List, [], ◌∷◌, ◌++◌, Some, slice_get, length, take, drop, reverse, arith, refl, sym, subst, ap, ◌∙◌, append_assoc}
+use Rattle.std.proofs.Common.{Global, Vec, ◌≡◌, ◌<◌, ◌+◌, ℕ, zero, suc, List, [], ◌∷◌, ◌++◌, Some, slice_get, length, take, drop, reverse, arith, refl, sym, subst, ap, ◌∙◌, append_assoc}
 use Rattle.std.proofs.lemmas.List.{reverse-append, take-append-drop, take_all}
+use Rattle.std.specs.List.{Contains}
 use Rattle.mencius_base.specs.declared.command.CommandId.{CommandId}
+use Rattle.mencius_log.specs.declared.observation.Answer.{Answer}
 use Rattle.mencius_log.specs.declared.observation.Observation.{Observation}
-use Rattle.mencius_judge.specs.declared.violation.Violation.{Violation}
+use Rattle.mencius_log.specs.declared.observation.Observation.TheVariants.{Reply}
 use Rattle.mencius_judge.specs.Log.{Log}
+use Rattle.mencius_judge.specs.Promises.{AreOneReply}
 use Rattle.mencius_clients.specs.declared.explanation.Cause.{Cause}
 use Rattle.mencius_clients.specs.declared.explanation.Cause.TheVariants.{Waiting, Configurations}
 use Rattle.mencius_clients.specs.declared.explanation.Explanation.{Explanation}
-use Rattle.mencius_clients.specs.declared.explanation.Explanation.TheVariants.{Broken, Undecided}
-use Rattle.mencius_clients.specs.Explained.{IsBroken, IsCause, IsExplanation, IsLinearizable, IsSplitAt}
+use Rattle.mencius_clients.specs.declared.explanation.Explanation.TheVariants.{Explained, Unexplained, Undecided}
+use Rattle.mencius_clients.specs.Explained.{IsBetween, IsCause, IsExplanation, IsLinearizable, IsLinearizableTo, IsSplitAt}
 use Rattle.mencius_clients.specs.ManyStates.{ComesAfterMany}
-use Rattle.mencius_clients.specs.FirstLines.{IsBetween, IsFoundLine, IsLinearizableTo}
+use Rattle.mencius_clients.specs.FirstLines.{IsFoundLine}
+use Rattle.mencius_clients.proofs.Later.{contains_end}
 
-none_splits : (front back : List CommandId) (id : CommandId) → [] ≡ front ++ id ∷ back → ⊥
-none_splits [] back id e = cc
-none_splits (x ∷ front) back id e = cc
-
-pub empty_linearizable : IsLinearizable []
-empty_linearizable = (
-  [],
-  record {
-    once = λ n m id e. absurd (cc);
-    submitted = λ id has. absurd (cc);
-    complete = λ id has. absurd (cc);
-    real_time = λ front back id x e. absurd (none_splits front back id e);
-    answers = λ front back id c x e. absurd (none_splits front back id e);
-  },
-)
-
-pub begins_between : (log : List Observation) → (IsLinearizable (reverse log) → ⊥) → IsBetween log 0 (length log)
-begins_between log none = record {
-  rising = some_line log none;
+pub between_end : (log : List Observation) (line : ℕ) → line < length log → IsLinearizable (reverse (take line log))
+    → (IsLinearizable (reverse log) → ⊥) → IsBetween log line (length log)
+between_end log line less has none = record {
+  rising = less;
   within = omega arith;
-  has = empty_linearizable;
+  has = has;
   lacks = λ h. none (subst (λ l. IsLinearizable (reverse l)) (take_all (length log) log (omega arith)) h);
 }
-  where
-    some_line : (l : List Observation) → (IsLinearizable (reverse l) → ⊥) → 0 < length l
-    some_line [] h = absurd (h empty_linearizable)
-    some_line (o ∷ l) h = omega arith
 
 pub low_raised : (log : List Observation) (low high count : ℕ) → IsBetween log low high → count < high
     → IsLinearizableTo log count → IsBetween log count high
@@ -89,16 +74,6 @@ splits_whole log count line later o earlier h = record {
   first = h.first ∙ ap reverse (take_first log count line o h.there);
 }
 
-pub broken_whole : (log : List Observation) (count line : ℕ) (v : Violation) → IsBroken (take count log) line v
-    → IsBroken log line v
-broken_whole log count line v h = record {
-  later = reverse (drop count log) ++ h.later;
-  o = h.o;
-  earlier = h.earlier;
-  splits = splits_whole log count line h.later h.o h.earlier h.splits;
-  breaks = h.breaks;
-}
-
 pub cause_whole : (log : List Observation) (count most : ℕ) (cause : Cause) → IsCause (take count log) most cause
     → IsCause log most cause
 cause_whole log count most (Waiting line) h = record {
@@ -114,10 +89,29 @@ cause_whole log count most (Configurations line) h = (
   subst (λ lines. ComesAfterMany (reverse lines) h.0 most) (take_first log count line h.0 h.1) h.2,
 )
 
-pub broken_of : (log : List Observation) (count most : ℕ) (e : Explanation) (line : ℕ) (v : Violation) → e ≡ Broken line v
-    → IsExplanation (take count log) most e → IsBroken log line v
-broken_of log count most e line v is h = broken_whole log count line v (subst (IsExplanation (take count log) most) is h)
-
 pub cause_of : (log : List Observation) (count most : ℕ) (e : Explanation) (cause : Cause) → e ≡ Undecided cause
     → IsExplanation (take count log) most e → IsCause log most cause
 cause_of log count most e cause is h = cause_whole log count most cause (subst (IsExplanation (take count log) most) is h)
+
+pub one_reply_first : (log : List Observation) (count : ℕ) → AreOneReply (reverse log) → AreOneReply (reverse (take count log))
+one_reply_first log count one id x y a b = one id x y (still id x a) (still id y b)
+  where
+    still : (i : CommandId) (z : Answer) → Contains (reverse (take count log)) (Reply i z) → Contains (reverse log) (Reply i z)
+    still i z h =
+        subst (λ (l : Log). Contains l (Reply i z))
+        (sym (ap reverse (sym (take-append-drop count log)) ∙ reverse-append (take count log) (drop count log)))
+        (contains_end (reverse (drop count log)) (reverse (take count log)) (Reply i z) h)
+
+-- ---- what an explanation says of the first lines
+
+pub has_of : (log : List Observation) (count most : ℕ) (e : Explanation) (order : Vec CommandId Global) → e ≡ Explained order
+    → IsExplanation (take count log) most e → IsLinearizableTo log count
+has_of log count most e order is h = (order.items, subst (IsExplanation (take count log) most) is h)
+
+pub lacks_of : (log : List Observation) (count most : ℕ) (e : Explanation) (line : ℕ) → e ≡ Unexplained line
+    → IsExplanation (take count log) most e → IsLinearizableTo log count → ⊥
+lacks_of log count most e line is h has =
+    let between : IsBetween (take count log) line (length (take count log)) =
+    subst (IsExplanation (take count log) most) is h in
+    between.lacks (subst (λ l. IsLinearizable (reverse l))
+    (sym (take_all (length (take count log)) (take count log) (omega arith))) has)

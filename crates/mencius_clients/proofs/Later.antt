@@ -138,6 +138,10 @@ before_later (Tell r p ∷ later) u id x replied new there = before_later later 
 before_later (Settle p ∷ later) u id x replied new there = before_later later u id x replied new there
 before_later (Restore p q n ∷ later) u id x replied new there = before_later later u id x replied new there
 
+pub contains_end : {A : Type 0} (front xs : List A) (x : A) → Contains xs x → Contains (front ++ xs) x
+contains_end [] xs x h = h
+contains_end (y ∷ front) xs x h = contains_later y (front ++ xs) x (contains_end front xs x h)
+
 -- what is in a list is in it from its end
 pub contains_reverse : {A : Type 0} (xs : List A) (x : A) → Contains xs x → Contains (reverse xs) x
 contains_reverse xs x h =

@@ -25,7 +25,6 @@ use Rattle.mencius_clients.proofs.Lacking.{has_back, has_either, has_front, has_
 use Rattle.mencius_clients.proofs.Renamings.{renamed_is, swapped, swapped_at, swapped_names, swapped_third}
 use Rattle.mencius_clients.proofs.Unseen.{at_cas, at_other, at_same, at_seen, at_write, is_same, overwritten_more, same_texts, sees_early, sees_later, sees_lost}
 use Rattle.mencius_clients.proofs.Values.{blind, effectless, read_same, value_elsewhere, value_there}
-use Rattle.mencius_clients.proofs.ReplyLines.{is_failed_reply}
 use Rattle.mencius_judge.proofs.acknowledged.OpenReplies.{is_true}
 
 some_same : (a : Option Command) (b : Option Command) → is_some a ≡ true → ((c : Command) → a ≡ Some c → b ≡ Some c) → a ≡ b

@@ -1,5 +1,5 @@
 -- A search keeps an order for each configuration of each key, line by line.
-use Rattle.std.proofs.Common.{Option, ◌≤◌, take, length-take, arith, ◌<◌, zero, suc, ◌≡◌, ◌≢◌, inl, inr, true, false, List, [], ◌∷◌, ◌++◌, Some, None, ℕ, length, reverse, slice_get, refl, sym, subst, ap, ◌∙◌, append_assoc}
+use Rattle.std.proofs.Common.{Option, is_some, ◌≤◌, drop, take, length-take, arith, ◌<◌, zero, suc, ◌≡◌, ◌≢◌, inl, inr, true, false, List, [], ◌∷◌, ◌++◌, Some, None, ℕ, length, reverse, slice_get, refl, sym, subst, ap, ◌∙◌, append_assoc}
 use Rattle.std.specs.BTreeMap.{get_by_text}
 use Rattle.std.specs.List.{Contains}
 use Rattle.mencius_base.specs.declared.command.Command.{Command}
@@ -14,7 +14,7 @@ use Rattle.mencius_clients.specs.declared.search.Search.{Search}
 use Rattle.mencius_clients.specs.declared.configuration.Configuration.{Configuration}
 use Rattle.mencius_clients.proofs.Words.{no_slot}
 use Rattle.mencius_clients.specs.Configurations.{has_slot, no_slots, text_at, IsPlaced, IsUnacknowledged, submitted_by, waiting}
-use Rattle.std.proofs.lemmas.List.{length-reverse, take_all}
+use Rattle.std.proofs.lemmas.List.{length-reverse, take-append-drop, take_all}
 use Rattle.mencius_judge.specs.declared.judge.Judge.{Judge}
 use Rattle.mencius_judge.specs.Judged.{HasSeenLog}
 use Rattle.mencius_judge.specs.Promises.{AreOneReply}
@@ -22,7 +22,7 @@ use Rattle.mencius_clients.specs.declared.explanation.Explanation.{Explanation}
 use Rattle.mencius_clients.specs.declared.outcome.Outcome.{Outcome}
 use Rattle.mencius_clients.specs.declared.outcome.Outcome.TheVariants.{Goes}
 use Rattle.mencius_clients.specs.declared.outcome.Outcome.TheVariants as outcome
-use Rattle.mencius_clients.specs.Explained.{HasHeard, IsEnd, heard}
+use Rattle.mencius_clients.specs.Explained.{HasHeard, IsEnd, IsLinearizable, heard}
 use Rattle.mencius_clients.proofs.Explaining.{reply_still}
 use Rattle.mencius_clients.specs.ManyStates.{ComesAfterMany}
 use Rattle.mencius_clients.specs.OrdersSoFar.{AreWithin, HasFound, IsFoundBy, IsLongerTrail, IsSoundlyAnswered}
@@ -30,6 +30,9 @@ use Rattle.mencius_clients.specs.States.{ReachMany}
 use Rattle.mencius_clients.specs.Reached.{AreWaiting}
 use Rattle.mencius_clients.specs.Searched.{HasSearched, configurations_of, slots_of}
 use Rattle.mencius_clients.proofs.Later.{acknowledged_either, command_later}
+use Rattle.mencius_clients.specs.KeyOrders.{ids_at}
+use Rattle.mencius_clients.proofs.LocalityMerging.{local}
+use Rattle.mencius_clients.proofs.StatesLeft.{linearizes}
 use Rattle.mencius_clients.proofs.OrdersFound.{none_found, line_calls, line_many, line_passes, line_replies}
 
 -- a line that acknowledges no further command
@@ -171,3 +174,23 @@ whole_part log line all = ap reverse (take_all line log all)
 pub one_reply_heard : (j : Judge) (log : List Observation) → HasHeard j (heard (reverse log)) → AreOneReply (reverse log)
 one_reply_heard j log h id x y a b =
     (subst (HasSeenLog j) h.2 h.1.log).one_reply id x y (reply_still (reverse log) id x a) (reply_still (reverse log) id y b)
+
+-- the lines that the search took have a linearization
+pub part_linearizable : (log part rest : List Observation) (s : Search) → log ≡ part ++ rest
+    → ((id : CommandId) → has_id (acknowledged (reverse part)) id ≡ true → is_some (command_of (reverse part) id) ≡ true)
+    → HasFound log (reverse part) s → IsLinearizable (reverse part)
+part_linearizable log part rest s whole submitted h =
+    (local (reverse part)).1 (λ key.
+    let found : IsFoundBy log (reverse part) key s.trail.items (get_by_text s.by_key key) = h key in
+    let c : Configuration = found.some.0 in
+    let order = found.orders c found.some.1 in (
+      ids_at log (reverse order.0),
+      linearizes log part rest whole key (waiting log (slots_of (get_by_text s.by_key key))) (λ t. has_slot c.done t)
+          (text_at log c.text) (reverse order.0) order.2 submitted,
+    ))
+
+pub lines_linearizable : (log : List Observation) (line : ℕ) (w : Log) (s : Search)
+    → HasSearched w (reverse (take line log)) log s → HasFound log (reverse (take line log)) s
+    → IsLinearizable (reverse (take line log))
+lines_linearizable log line w s searched found =
+    part_linearizable log (take line log) (drop line log) s (sym (take-append-drop line log)) searched.submitted found

@@ -23,7 +23,7 @@ use Rattle.mencius_clients.specs.States.{AreRising, HasNext, Precedes, text_cmp}
 use Rattle.mencius_clients.proofs.DifferentStates.{text_once}
 use Rattle.mencius_clients.proofs.KeyOrderRight.{has_front, is_submission, key_linearizes}
 use Rattle.mencius_clients.proofs.Lacking.{get_front}
-use Rattle.mencius_clients.proofs.Later.{acknowledged_later, command_later, contains_reverse}
+use Rattle.mencius_clients.proofs.Later.{acknowledged_later, command_later, contains_end, contains_reverse}
 use Rattle.mencius_clients.proofs.LineCommands.{some_at}
 use Rattle.mencius_clients.proofs.Replied.{commands_alike}
 
@@ -31,10 +31,6 @@ contains_get : {A : Type 0} (xs : List A) (n : ℕ) (x : A) → slice_get xs n �
 contains_get [] n x e = absurd (cc)
 contains_get (y ∷ xs) zero x e = let same : y ≡ x = cc in contains_here y xs x same
 contains_get (y ∷ xs) (suc n) x e = contains_later y xs x (contains_get xs n x e)
-
-contains_end : {A : Type 0} (front xs : List A) (x : A) → Contains xs x → Contains (front ++ xs) x
-contains_end [] xs x h = h
-contains_end (y ∷ front) xs x h = contains_later y (front ++ xs) x (contains_end front xs x h)
 
 -- the moment of an acknowledged command stays
 acknowledged_at_later : (later u : Log) (id : CommandId) → has_id (acknowledged u) id ≡ true

@@ -1,5 +1,5 @@
 -- The verdict on a log, and what is true of it.
-use Rattle.std.specs.Prelude.{◌≡◌, ◌<◌, ◌++◌, ℕ, Bool, true, false, List, [], ◌∷◌, Option, Some, None, length, reverse, slice_get, if◌then◌else◌, take}
+use Rattle.std.specs.Prelude.{◌≡◌, ◌<◌, ◌≤◌, ◌++◌, ℕ, Bool, true, false, List, [], ◌∷◌, Option, Some, None, length, reverse, slice_get, if◌then◌else◌, take}
 use Rattle.mencius_base.specs.declared.command.Command.{Command}
 use Rattle.mencius_base.specs.declared.command.CommandId.{CommandId}
 use Rattle.mencius_model.specs.KeyMap.{key_of}
@@ -14,7 +14,7 @@ use Rattle.mencius_judge.specs.Quotes.{NumberedLog, log_of}
 use Rattle.mencius_clients.specs.declared.explanation.Cause.{Cause}
 use Rattle.mencius_clients.specs.declared.explanation.Cause.TheVariants.{Waiting, Configurations}
 use Rattle.mencius_clients.specs.declared.explanation.Explanation.{Explanation}
-use Rattle.mencius_clients.specs.declared.explanation.Explanation.TheVariants.{Explained, Unexplained, Broken, Undecided}
+use Rattle.mencius_clients.specs.declared.explanation.Explanation.TheVariants.{Explained, Unexplained, Undecided}
 use Rattle.mencius_clients.specs.declared.heard.Heard.{Heard}
 use Rattle.mencius_clients.specs.declared.heard.Heard.TheVariants as hearing
 use Rattle.mencius_clients.specs.declared.outcome.Outcome.{Outcome}
@@ -25,6 +25,17 @@ use Rattle.mencius_clients.specs.ManyStates.{ComesAfterMany}
 -- some order is a linearization of the log
 abbrev pub IsLinearizable : Log → Type 0
 IsLinearizable w = (order : List CommandId) × IsLinearization w order
+
+-- the first `count` lines of the log have a linearization
+abbrev pub IsLinearizableTo : List Observation → ℕ → Type 0
+IsLinearizableTo log count = IsLinearizable (reverse (take count log))
+
+-- the first `low` lines have a linearization, and the first `high` lines have none
+pub record IsBetween (log : List Observation) (low high : ℕ) : Type 0 where
+  pub rising : low < high
+  pub within : high ≤ length log
+  pub has : IsLinearizableTo log low
+  pub lacks : IsLinearizableTo log high → ⊥
 
 -- the observation is a submission or a reply
 abbrev pub is_of_client : Observation → Bool
@@ -108,6 +119,5 @@ IsEnd outcome.Configurations line found = found ≡ Some (Undecided (Configurati
 -- the explanation of the log, by a search with this limit, is right
 abbrev pub IsExplanation : List Observation → ℕ → Explanation → Type 0
 IsExplanation log most (Explained order) = IsLinearization (reverse log) order.items
-IsExplanation log most (Unexplained line) = IsLinearizable (reverse log) → ⊥
-IsExplanation log most (Broken line violation) = IsBroken log line violation
+IsExplanation log most (Unexplained line) = IsBetween log line (length log)
 IsExplanation log most (Undecided cause) = IsCause log most cause

@@ -2,17 +2,17 @@
 
 ghost use Rattle.std.specs.Prelude.{◌≡◌, ◌≤◌, ◌+◌, ◌<◌, ℕ, List, IfErr, IfOk, Some, length, reverse, slice_get, take};
 ghost use Rattle.mencius_io.specs.Streams.{TakesAtMost, most_bytes, most_failed_calls};
-ghost use Rattle.mencius_judge.specs.Promises.{WereSubmitted};
+ghost use Rattle.mencius_judge.specs.Promises.{AreOneReply, WereSubmitted};
 ghost use Rattle.mencius_log.specs.declared.observation.Observation.{Observation};
 ghost use Rattle.mencius_clients.specs.FirstLines.{IsFoundLine};
 ghost use Rattle.mencius_clients.specs.ClientVerdicts.{HasCommandAt, IsClientJudgement, IsGivenUp, IsVerdictFor};
-ghost use Rattle.mencius_clients.specs.Explained.{HasHeard, IsBroken, IsCause, IsLinearizable, heard};
+ghost use Rattle.mencius_clients.specs.Explained.{HasHeard, IsBetween, IsBroken, IsCause, heard};
 ghost use Rattle.mencius_clients.specs.ReadLogs.{IsLogOf, IsNumbered, IsReadFailure};
 
 use crate::client_counts::counts_of;
 use crate::client_log::{ClientLog, number_at, read_log};
 use crate::client_verdict::{ClientJudgement, ClientVerdict, GiveUp};
-use crate::explanation::{Cause, Explanation, explain_heard};
+use crate::explanation::{Cause, Explanation, explain};
 use crate::first_lines::{FirstLine, first_line};
 use crate::fitting_answers::fitting_answers;
 use crate::heard::{Heard, hear};
@@ -76,29 +76,28 @@ fn judge_heard(
     if counts.replies == 0 {
         return Ok(ClientVerdict::Unjudged { counts });
     }
-    match explain_heard(alloc, &judge, lines, most)? {
+    match explain(alloc, lines, most)? {
         Explanation::Explained { order } => Ok(ClientVerdict::Linearizable { counts, order }),
         Explanation::Unexplained { line } => judge_unexplained(alloc, log, most, line),
-        Explanation::Broken { line, violation } => Ok(broken(log, line, violation)),
         Explanation::Undecided { cause } => undecided(alloc, log, most, cause),
     }
 }
 
-// Returns the verdict on a log that has no linearization.
+// Returns the verdict on a log that has no linearization. The lines before `start` have one.
 fn judge_unexplained(
     alloc: Global,
     log: &ClientLog,
     most: usize,
-    hint: usize,
+    start: usize,
 ) -> Result<ClientVerdict, NoMemory>
     requires numbered { IsNumbered log.now }
     requires submitted { WereSubmitted (heard (reverse log.now.observations.items)) }
-    requires none { IsLinearizable (reverse log.now.observations.items) → ⊥ }
+    requires one_reply { AreOneReply (reverse log.now.observations.items) }
+    requires between { IsBetween log.now.observations.items start (length log.now.observations.items) }
     ensures { IfOk result (λ verdict. (bytes : List ℕ) → IsLogOf bytes log.now → IsVerdictFor bytes most verdict) }
 {
-    match first_line(alloc, log.observations.as_slice(), most, hint)? {
+    match first_line(alloc, log.observations.as_slice(), most, start)? {
         FirstLine::Found { line } => first_without(alloc, log, most, line),
-        FirstLine::Broken { line, violation } => Ok(broken(log, line, violation)),
         FirstLine::Undecided { cause } => undecided(alloc, log, most, cause),
     }
 }

@@ -2,18 +2,16 @@
 
 ghost use Rattle.std.specs.Prelude.{◌≡◌, ◌<◌, [], IfOk, IfSome, MatchOption, length, reverse, slice_get, Some, None};
 ghost use Rattle.mencius_clients.specs.Configurations.{AreReplyLines};
-ghost use Rattle.mencius_clients.specs.Explained.{HasHeard, IsEnd, IsExplanation, heard};
+ghost use Rattle.mencius_clients.specs.Explained.{IsEnd, IsExplanation};
 ghost use Rattle.mencius_clients.specs.Searched.{HasSearched};
 ghost use Rattle.mencius_clients.specs.OrdersSoFar.{HasFound};
 ghost use Rattle.mencius_judge.specs.Promises.{AreOneReply};
 
 use crate::answers::reply_lines;
-use crate::heard::{Heard, hear};
 use crate::orders::merged_order;
 use crate::outcome::Outcome;
 use crate::search::Search;
 use mencius_base::{CommandId, NoMemory};
-use mencius_judge::{Judge, Violation};
 use mencius_log::Observation;
 use std::alloc::Global;
 use std::collections::BTreeMap;
@@ -32,39 +30,19 @@ pub enum Cause {
 pub enum Explanation {
     /// This order of the commands is a linearization.
     Explained { order: Vec<CommandId> },
-    /// No order is a linearization. The search ended at this line. It knew all replies of the log, so the log up to this
-    /// line may still have a linearization.
+    /// No order is a linearization. The search ended at this line, and the lines before it have a linearization. The
+    /// search knew all replies of the log, so the lines up to this one may have one too.
     Unexplained { line: usize },
-    /// Submissions and replies alone break a promise, and this line is the first that does.
-    Broken { line: usize, violation: Violation },
     /// The search was given up.
     Undecided { cause: Cause },
 }
 
-/// Searches for an order of the commands that is a linearization of the log's submissions and replies. The search is
-/// given up if more than 4,096 commands of one key wait for their replies at once, or if a reply makes `limit`
-/// configurations of its key or more.
+/// Searches for an order of the commands that is a linearization of the log's submissions and replies. No two replies to
+/// a command may differ. The search is given up if more than 4,096 commands of one key wait for their replies at once, or
+/// if a reply makes `limit` configurations of its key or more.
 pub fn explain(alloc: Global, log: &[Observation], limit: usize) -> Result<Explanation, NoMemory>
+    requires { AreOneReply (reverse log.now) }
     ensures { IfOk result (IsExplanation log.now limit) }
-{
-    match hear(alloc, log)? {
-        Heard::Broken { fault } => Ok(Explanation::Broken {
-            line: fault.line,
-            violation: fault.violation,
-        }),
-        Heard::Kept { judge } => explain_heard(alloc, &judge, log, limit),
-    }
-}
-
-/// Searches for such an order, if the judge has seen the submissions and replies of the log. So no two replies to a command
-/// differ.
-pub fn explain_heard(
-    alloc: Global,
-    _judge: &Judge, // proof: it has seen the submissions and replies
-    log: &[Observation],
-    limit: usize,
-) -> Result<Explanation, NoMemory>
-    ensures { IfOk result (λ found. HasHeard _judge.now (heard (reverse log.now)) → IsExplanation log.now limit found) }
 {
     let replies = reply_lines(alloc, log)?;
     let mut search = Search::new(alloc);

@@ -7,10 +7,12 @@ ghost use Rattle.mencius_log.specs.declared.observation.Answer.{Answer};
 ghost use Rattle.mencius_log.specs.declared.observation.Observation.{Observation};
 ghost use Rattle.mencius_log.specs.declared.observation.Observation.TheVariants.{Reply};
 ghost use Rattle.mencius_judge.specs.Log.{Log};
+ghost use Rattle.mencius_judge.specs.Promises.{AreOneReply};
 ghost use Rattle.mencius_clients.specs.Explained.{IsLinearizable};
 ghost use Rattle.mencius_clients.specs.FittingAnswers.{AllFit, Fits, about_key};
 
 use crate::explanation::{Explanation, explain};
+use crate::heard::{Heard, hear};
 use crate::key_lines::lines_of_key;
 use mencius_base::{CommandId, NoMemory, Text};
 use mencius_judge::operations::new_text;
@@ -126,10 +128,20 @@ fn fits(
 fn has_order(alloc: Global, lines: &[Observation], limit: usize) -> Result<bool, NoMemory>
     ensures { IfOk result (λ has. IsTrue has → IsLinearizable (reverse lines.now)) }
 {
+    match hear(alloc, lines)? {
+        Heard::Kept { .. } => is_explained(alloc, lines, limit),
+        Heard::Broken { .. } => Ok(false),
+    }
+}
+
+// Returns whether a search finds a linearization of these lines.
+fn is_explained(alloc: Global, lines: &[Observation], limit: usize) -> Result<bool, NoMemory>
+    requires { AreOneReply (reverse lines.now) }
+    ensures { IfOk result (λ has. IsTrue has → IsLinearizable (reverse lines.now)) }
+{
     match explain(alloc, lines, limit)? {
         Explanation::Explained { .. } => Ok(true),
         Explanation::Unexplained { .. } => Ok(false),
-        Explanation::Broken { .. } => Ok(false),
         Explanation::Undecided { .. } => Ok(false),
     }
 }

@@ -1,6 +1,6 @@
 use Rattle.mencius_judge.specs.Log.{Log}
 use Rattle.mencius_clients.specs.OrdersSoFar.{HasFound}
-use Rattle.mencius_clients.proofs.SearchFound.{goes_on, part_length, whole_part}
+use Rattle.mencius_clients.proofs.SearchFound.{goes_on, lines_linearizable, part_length, whole_part}
 use Rattle.std.proofs.Common.{ℕ, ◌≡◌, Some, refl, reverse, slice_get, sym, subst, take}
 use Rattle.std.specs.Prelude.{IfSome}
 use Rattle.mencius_clients.specs.Explained.{IsExplanation}
@@ -18,7 +18,9 @@ returns-in-Some-clause-explained c first one found =
     subst (λ ended. IfSome ended (IsExplanation log c.args.limit)) c.in-Some.is
     (ended_right log c.loop-line.line c.index-log-line.result u whole.0 c.take.new.self c.in_ok-outcome.outcome c.ended.result
     at whole.1 refl c.ended.ensures (c.in_ok-outcome.ensures.after u whole.0 whole.1 (c.loop-line.invariant.0 first))
-    c.args.limit
+    c.args.limit c.loop-line-test.true
+    (lines_linearizable log c.loop-line.line (reverse log) c.loop-line.search (c.loop-line.invariant.0 first)
+    (c.loop-line.invariant.1 first one found))
     (c.in_ok-outcome.ensures.many u whole.0 whole.1 one (c.loop-line.invariant.0 first)
     (c.loop-line.invariant.1 first one found)))
 

@@ -1,5 +1,5 @@
 use Rattle.std.proofs.Common.{◌-◌}
-use Rattle.mencius_clients.specs.FirstLines.{IsBetween}
+use Rattle.mencius_clients.specs.Explained.{IsBetween}
 use Rattle.mencius_clients.proofs.first_lines.first_line.Given as goal
 
 abbrev pub decreases-loop-high : goal.decreases-loop-high

@@ -1,7 +1,7 @@
-use Rattle.std.proofs.Common.{◌≡◌, length, sym, subst, ℕ}
+use Rattle.std.proofs.Common.{length, sym, subst, ℕ}
 use Rattle.mencius_clients.specs.declared.configuration.Configuration.{Configuration}
 use Rattle.mencius_clients.specs.Configurations.{Calls, waiting}
-use Rattle.mencius_clients.specs.OrdersSoFar.{IsLongerTrail, IsReachable, numbered, trail_with}
+use Rattle.mencius_clients.specs.OrdersSoFar.{IsLongerTrail, IsReachable, trail_with}
 use Rattle.mencius_clients.proofs.SoundSteps.{IsRenumbered, has_read_again, last_read, more_longer, reachable_more, renumbered, trail_more, with_longer, within_later}
 use Rattle.mencius_clients.proofs.steps.push_new.Goals as goal
 

@@ -1,4 +1,4 @@
-use Rattle.std.proofs.Common.{None, Option, Some, List, [], ◌∷◌, ◌++◌, length, refl, sym, ◌∙◌}
+use Rattle.std.proofs.Common.{None, Some, List, [], ◌∷◌, ◌++◌, length, refl, sym, ◌∙◌}
 use Rattle.mencius_clients.specs.declared.configuration.Configuration.{Configuration}
 use Rattle.mencius_clients.specs.declared.steps.Step.{Step}
 use Rattle.mencius_clients.specs.OrdersSoFar.{AreReachable, AreWithin, IsReachable, numbered}

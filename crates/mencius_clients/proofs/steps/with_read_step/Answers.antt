@@ -1,4 +1,4 @@
-use Rattle.std.proofs.Common.{rules, ◌≡◌, None, Option, Some, true, false, inl, inr, length, slice_get, refl, sym, subst, ap, ◌∙◌, ℕ}
+use Rattle.std.proofs.Common.{rules, ◌≡◌, None, Some, true, false, inl, inr, length, slice_get, refl, sym, subst, ap, ◌∙◌, ℕ}
 use Rattle.mencius_clients.specs.declared.configuration.Configuration.{Configuration}
 use Rattle.mencius_clients.specs.Configurations.{has_slot, submitted_by}
 use Rattle.mencius_clients.proofs.SoundSteps.{reachable_step, slot_at}

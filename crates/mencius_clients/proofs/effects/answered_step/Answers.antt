@@ -1,5 +1,5 @@
 use Rattle.std.proofs.Common.{rules}
-use Rattle.mencius_clients.proofs.steps.answered_step.Goals as goal
+use Rattle.mencius_clients.proofs.effects.answered_step.Goals as goal
 
 pub returns-then-not-is_right_at-clause-step : goal.returns-then-not-is_right_at-clause-step
 returns-then-not-is_right_at-clause-step c = (

@@ -1,5 +1,5 @@
 use Rattle.mencius_clients.proofs.Fewer.{lost_step}
-use Rattle.mencius_clients.proofs.steps.unanswered_step.Goals as goal
+use Rattle.mencius_clients.proofs.effects.unanswered_step.Goals as goal
 
 pub returns-clause-step : goal.returns-clause-step
 returns-clause-step c calls =

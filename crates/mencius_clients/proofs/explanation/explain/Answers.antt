@@ -1,21 +1,20 @@
 use Rattle.std.proofs.Common.{reverse, subst}
 use Rattle.std.specs.Prelude.{IfSome}
 use Rattle.mencius_clients.specs.Explained.{IsExplanation}
-use Rattle.mencius_clients.proofs.SearchFound.{one_reply_heard}
 use Rattle.mencius_clients.proofs.OrdersFound.{all_found}
-use Rattle.mencius_clients.proofs.explanation.explain_heard.Goals as goal
+use Rattle.mencius_clients.proofs.explanation.explain.Goals as goal
 
 pub returns-in-Some : goal.returns-in-Some
-returns-in-Some c heard =
+returns-in-Some c =
     let log = c.args.log.now in
     subst (λ found. IfSome found (IsExplanation log c.args.limit)) c.in-Some.is
     (c.in_ok-explanation.ensures.explained (c.new-search.ensures.searched (reverse log) log)
-    (one_reply_heard c.args._judge.now log heard) (c.new-search.ensures.found log))
+    c.requires (c.new-search.ensures.found log))
 
 pub returns : goal.returns
-returns c heard =
+returns c =
     let log = c.args.log.now in
     let first = c.new-search.ensures.searched (reverse log) log in
     let s = c.in_ok-explanation.ensures.searched c.in_default.is first in
     c.in_ok-order.ensures (all_found log c.search_all.new.search s.submitted
-    (c.in_ok-explanation.ensures.orders c.in_default.is first (one_reply_heard c.args._judge.now log heard) (c.new-search.ensures.found log)))
+    (c.in_ok-explanation.ensures.orders c.in_default.is first c.requires (c.new-search.ensures.found log)))

@@ -1,6 +1,6 @@
 use Rattle.mencius_clients.specs.Configurations.{waiting}
 use Rattle.mencius_clients.proofs.Growing.{read_step}
-use Rattle.mencius_clients.proofs.steps.with_reads.Goals as goal
+use Rattle.mencius_clients.proofs.effects.with_reads.Goals as goal
 
 pub loop-slot-preserved : goal.loop-slot-preserved
 loop-slot-preserved c =

@@ -1,6 +1,6 @@
 use Rattle.std.proofs.Common.{sym, subst}
 use Rattle.mencius_clients.specs.Configurations.{HasReplyLine}
-use Rattle.mencius_clients.proofs.steps.stepped.Goals as goal
+use Rattle.mencius_clients.proofs.effects.stepped.Goals as goal
 
 pub returns-in_err-answer-clause-step : goal.returns-in_err-answer-clause-step
 returns-in_err-answer-clause-step c =
