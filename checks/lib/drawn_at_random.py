@@ -8,6 +8,16 @@ from shared import fail, say
 MOST_MILLISECONDS = 300
 MOST_FOR_A_STEP = 150
 EVENTS = 10_000
+# The numbers of commands that are executed in each of some draws. A draw is two clicks for twenty events.
+COMMANDS_OF_DRAWS = r"""const click = id => document.getElementById(id).click(), counts = [];
+  for (let draw = 0; draw < 4; draw += 1) {
+    click('random20');
+    click('random20');
+    counts.push(document.getElementById('trace').textContent.match(/^executed (?!.* no-op$)/gm)?.length ?? 0);
+    click('undo');
+    click('undo');
+  }
+  return counts"""
 
 
 def look(browser):
@@ -43,16 +53,14 @@ def look_at_the_events(browser):
 
 
 def look_at_other_clusters(browser):
-    """Also with more servers, which send more messages, the first two clicks for twenty events execute a command."""
+    """Also with more servers, which send more messages, the first two clicks for twenty events execute a command. After
+    an undo of both, the same dice draw other events."""
     for servers in (1, 2, 4, 5, 6, 7):
         browser.open(URL + f"#n={servers}&at=0&e=")
-        browser.click("#random20")
-        browser.click("#random20")
         browser.click("#tab-texts")
-        lines = [line.split(" ") for line in browser.text("#trace").splitlines()]
+        counts = browser.run(COMMANDS_OF_DRAWS)
         browser.click("#tab-lesson")
-        if not any(line[0] == "executed" and line[-1] != "no-op" for line in lines):
-            fail(f"{browser.name}: 40 random events of {servers} servers execute no command")
+        same(browser, f"the draws of 40 events that execute no command of {servers} servers, {counts}", 0, counts.count(0))
     browser.open(URL + "#n=3&at=0&e=")
     for _ in range(6):
         browser.click("#random20")

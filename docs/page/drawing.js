@@ -54,7 +54,11 @@ class Drawing {
   // The schedule with the drawn events.
   get schedule() { return withEvents(this.prefix, this.added); }
 
+  // Nothing is disturbed before a command was executed, so a new page soon shows how that happens.
+  get isCalm() { return this.trace.histories.every(ids => ids.length === 0); }
+
   delay({ number, to }) {
+    if (this.isCalm) return;
     for (const server of to === null ? this.all : [to]) {
       if (this.chance(RATES.delay)) this.late.set(keyOfPair(number, server), this.time + this.dice(LATE));
     }
@@ -62,8 +66,9 @@ class Drawing {
 
   // Draws the next event. Until the next `look`, messages of the drawn events are not known.
   draw() {
-    const event = (this.chance(RATES.repeats) && this.repeat()) || (this.chance(92) && this.goOn()) || this.disturb()
-      || this.settle() || this.submit(this.dice(this.servers));
+    const repeats = !this.isCalm && this.chance(RATES.repeats);
+    const event = (repeats && this.repeat()) || (this.chance(92) && this.goOn()) || this.disturb() || this.settle()
+      || this.submit(this.dice(this.servers));
     this.added.push(event);
   }
 
@@ -73,11 +78,10 @@ class Drawing {
     return value ?? null;
   }
 
-  // Nothing is disturbed before a command was executed, so a new page soon shows how that happens. The first disturbance
-  // after that is a suspicion.
+  // The first disturbance is a suspicion.
   disturb() {
     if (this.trace.commands.size === 0 && this.added.length === 0) this.plot = this.burst();
-    if (this.trace.histories.every(ids => ids.length === 0)) return this.goOn();
+    if (this.isCalm) return this.goOn();
     if (this.chance(RATES.cuts)) this.cuts.set(this.victim = this.dice(this.servers), this.time + 10 + this.dice(20));
     if (!this.hasFought || this.chance(RATES.suspicion)) this.plot = this.fight();
     else if (this.chance(RATES.submissions) && this.onWay.length <= CROWDED * this.servers) this.plot = this.burst();
@@ -206,7 +210,7 @@ class Drawing {
 
   handOver({ number, to }) {
     this.onWay = this.onWay.filter(pair => pair.number !== number || pair.to !== to);
-    return `${this.chance(RATES.loss) ? 'lose' : 'deliver'} ${number} ${to}`;
+    return `${!this.isCalm && this.chance(RATES.loss) ? 'lose' : 'deliver'} ${number} ${to}`;
   }
 
   // Delivers a recent message again.
