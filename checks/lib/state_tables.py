@@ -83,7 +83,10 @@ def look_at_the_blocking_instance(browser):
       }""")
     card = '#dock [data-server="1"] '
     rows = f"{card}tbody th"
-    same(browser, "the instances of server 1", ["i0", "i1", "i4", "i7", "i10", "i13"], texts(browser, rows))
+    same(browser, "the instances of server 1: the first six, and the last one, which the last event changed",
+         ["i0", "i1", "i4", "i7", "i10", "i13", "i25"], texts(browser, rows))
+    same(browser, "the button for the other ones", ["3 later .."], texts(browser, f"{card}.knowledge > button"))
+    same(browser, "the changed cells of the first table", ["2.8 set a v8"], texts(browser, "#dock .changed"))
     same(browser, "the command of the newest message on its way to server 0", ["set a v8"],
          texts(browser, '#dock [data-server="0"] .inbox small')[-1:])
     same(browser, "the instance that blocks server 1", ["i0"], texts(browser, f"{card}tr.next th"))
@@ -121,9 +124,24 @@ def look_at_a_map(browser):
          texts(browser, ".server tbody tr:first-child > *"))
     act(browser, "before 8")
     same(browser, "the map after two commands", ["a =y"], texts(browser, "#dock .map li"))
+    look_at_the_marks_of_executions(browser)
     act(browser, "before 3")
     same(browser, "the map before the first execution", ["–"], texts(browser, "#dock .map code"))
     same(browser, "the cells that the last event changed", ["1.0 set a x"], texts(browser, "#dock .changed"))
+
+
+def look_at_the_marks_of_executions(browser):
+    """An execution changes the reply, the count, the history, and the map if the command writes."""
+    marked = "#dock .changed"
+    act(browser, "before 4")
+    same(browser, "the marks of the first execution", ["1.0 set a x → none", "executed 1", "1.0 set a x", "a =x"],
+         texts(browser, marked))
+    act(browser, "before 12")
+    same(browser, "the marks of the third execution", ["1.2 set b → none", "executed 3", "1.2 set b", "b ="],
+         texts(browser, marked))
+    act(browser, "before 24")
+    same(browser, "the marks of an execution that reads", ["1.5 get a → =y", "executed 6", "1.5 get a"],
+         texts(browser, marked))
 
 
 def look_at_many_replies(browser):

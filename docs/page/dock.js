@@ -43,20 +43,22 @@ function summary(now) {
 function replies(trace) {
   const hidden = dock.whole.has('replies') ? 0 : Math.max(0, trace.commands.size - REPLIES);
   const button = hidden > 0 ? el('li', {}, wholeButton('replies', `show ${hidden} older ..`)) : null;
+  const isNew = id => trace.events.at(-1).lines.some(line => line.startsWith(`reply ${id} `));
+  const classOf = (id, reply) => (reply === 'pending' ? 'soft' : isNew(id) ? 'changed' : null);
   return el('ul', { class: 'replies' }, button, ...trace.repliesFrom(hidden).map(([id, reply]) =>
-    el('li', { class: reply === 'pending' ? 'soft' : null }, el('b', {}, id), ` ${trace.commands.get(id)} `,
-      el('i', {}, `→ ${reply}`))));
+    el('li', { class: classOf(id, reply) }, el('b', {}, id), ` ${trace.commands.get(id)} `, el('i', {}, `→ ${reply}`))));
 }
 
 const count = (number, what) => `${number} ${what}${number === 1 ? '' : 's'}`;
 
 function card(now, server) {
   const { front, executed, waiting } = now.trace.closing[server];
-  const facts = [`next own i${front}`, `executed ${executed}`];
-  if (waiting.length) facts.push(`waiting ${waiting.join(' ')}`);
+  const marked = executedNow(now.trace, server) === null ? null : 'changed';
+  const facts = [`next own i${front} · `, el('span', { class: marked }, `executed ${executed}`)];
+  if (waiting.length) facts.push(` · waiting ${waiting.join(' ')}`);
   return el('section', { class: `server owner${server}`, 'data-server': server, 'aria-label': `server ${server}` },
     inbox(now, server), actions(now, server),
-    el('p', { class: 'facts' }, facts.join(' · ')),
+    el('p', { class: 'facts' }, ...facts),
     table(now, server), historyOf(now, server), mapOf(now, server));
 }
 

@@ -1,7 +1,8 @@
 'use strict';
 // What a server knows: the table of its instances, the commands that it executed, and its map.
 
-// At first, a table shows only this many instances, from the first one that the server has not executed.
+// At first, a table shows only this many instances, from the first one that the server has not executed. It also shows
+// the other instances that the last event changed, but at most this many.
 const INSTANCES = 6;
 // At first, a history shows only this many commands, the newest ones.
 const COMMANDS = 8;
@@ -15,8 +16,10 @@ const COLUMNS = [
 function instancesOf({ trace }, server) {
   const { next } = trace.closing[server], known = new Set(trace.slots[server].keys());
   if (known.size > 0) known.add(next);
-  return [...known].sort((one, other) => one - other);
+  return [...known].sort(byNumber);
 }
+
+const byNumber = (one, other) => one - other;
 
 function table(now, server) {
   const instances = instancesOf(now, server), { next } = now.trace.closing[server];
@@ -24,18 +27,26 @@ function table(now, server) {
   const [older, later] = [`older${server}`, `later${server}`], start = instances.indexOf(next);
   const from = dock.whole.has(older) ? 0 : start;
   const to = dock.whole.has(later) ? instances.length : Math.min(instances.length, start + INSTANCES);
-  const left = instances.length - to, caption = el('caption', { class: 'unseen' }, `instances at server ${server}`);
+  const outside = [...instances.slice(0, from), ...instances.slice(to)];
+  const changed = outside.filter(instance => isChanged(now, server, instance)).slice(0, INSTANCES);
+  const shown = [...changed, ...instances.slice(from, to)].sort(byNumber);
+  const before = from - changed.filter(instance => instance < next).length;
+  const left = instances.length - before - shown.length;
+  const caption = el('caption', { class: 'unseen' }, `instances at server ${server}`);
   return el('div', { class: 'knowledge' },
-    from > 0 ? wholeButton(older, `${from} executed ..`, `show ${count(from, 'executed instance')}`) : null,
+    before > 0 ? wholeButton(older, `${before} executed ..`, `show ${count(before, 'executed instance')}`) : null,
     el('table', {}, caption,
       el('thead', {}, el('tr', {}, ...COLUMNS.map(([name, title]) => el('th', { title, scope: 'col' }, name)))),
-      el('tbody', {}, ...instances.slice(from, to).flatMap(instance => rowsOf(now, server, instance)))),
+      el('tbody', {}, ...shown.flatMap(instance => rowsOf(now, server, instance)))),
     left > 0 ? wholeButton(later, `${left} later ..`, `show ${count(left, 'later instance')}`) : null);
 }
 
-function rowsOf({ schedule, trace }, server, instance) {
-  const slot = trace.slot(server, instance), { promised, vote, learned } = slot;
-  const isNext = instance === trace.closing[server].next, isLast = slot.at === trace.events.length - 1;
+// Whether the last event changed what a server knows of an instance.
+const isChanged = ({ trace }, server, instance) => trace.slot(server, instance).at === trace.events.length - 1;
+
+function rowsOf(now, server, instance) {
+  const { schedule, trace } = now, slot = trace.slot(server, instance), { promised, vote, learned } = slot;
+  const isNext = instance === trace.closing[server].next, isLast = isChanged(now, server, instance);
   const cell = (field, classes, ...parts) =>
     el('td', { class: isLast && slot.fields.includes(field) ? `${classes} changed` : classes }, ...parts);
   const command = value => (trace.commands.has(value) ? el('small', {}, ` ${trace.commands.get(value)}`) : null);
@@ -64,10 +75,17 @@ function attemptOf({ tried, promises, proposal, acceptances }) {
 
 // ---- the commands that a server executed
 
+// The value that the last event executed at a server, or null.
+function executedNow({ events }, server) {
+  const line = events.at(-1)?.lines.find(text => text.startsWith(`executed ${server} `));
+  return line ? line.split(' ')[5] : null;
+}
+
 function historyOf({ trace }, server) {
-  const done = trace.histories[server], list = `history${server}`;
+  const done = trace.histories[server], list = `history${server}`, now = executedNow(trace, server);
   const hidden = dock.whole.has(list) ? 0 : Math.max(0, done.length - COMMANDS);
-  const rows = done.slice(hidden).map(id => el('li', {}, el('b', {}, id), ` ${trace.commands.get(id)}`));
+  const rows = done.slice(hidden).map(id =>
+    el('li', { class: id === now ? 'changed' : null }, el('b', {}, id), ` ${trace.commands.get(id)}`));
   return el('div', { class: 'history' }, el('h3', {}, 'history'),
     hidden > 0 ? wholeButton(list, `show ${hidden} older ..`) : null,
     done.length === 0 ? el('code', {}, '–') : el('ol', {}, ...rows));
@@ -101,7 +119,11 @@ function mapAfter(commands, coreCall) {
 
 function mapOf({ trace }, server) {
   const commands = trace.histories[server].map(id => [id, trace.commands.get(id)]);
-  const rows = commands.length === 0 ? [] : mapAfter(commands, (args, input) => core.call(args, input));
-  return el('div', { class: 'map' }, el('h3', {}, 'map'), rows.length === 0 ? el('code', {}, '–')
-    : el('ul', {}, ...rows.map(([key, reply]) => el('li', {}, el('b', {}, key), ` ${reply}`))));
+  const after = some => (some.length === 0 ? [] : mapAfter(some, (args, input) => core.call(args, input)));
+  const rows = after(commands), isNew = trace.commands.has(executedNow(trace, server));
+  const former = new Map(isNew ? after(commands.slice(0, -1)) : rows);
+  const items = rows.map(([key, reply]) =>
+    el('li', { class: former.get(key) === reply ? null : 'changed' }, el('b', {}, key), ` ${reply}`));
+  return el('div', { class: 'map' }, el('h3', {}, 'map'),
+    items.length === 0 ? el('code', {}, '–') : el('ul', {}, ...items));
 }
