@@ -106,6 +106,10 @@ class Chromium(Browser):
         except WebDriverException as error:
             fail(f"Chromium can't click {selector}: {error.msg}")
 
+    def double_click(self, selector):
+        from selenium.webdriver.common.action_chains import ActionChains
+        ActionChains(self.driver).double_click(self.driver.find_element("css selector", selector)).perform()
+
     def press(self, *keys):
         from selenium.webdriver.common.action_chains import ActionChains
         actions = ActionChains(self.driver)
@@ -208,8 +212,16 @@ class Firefox(Browser):
         return self.call("WebDriver:ExecuteScript", script=script, args=[])["value"]
 
     def click(self, selector):
-        found = self.call("WebDriver:FindElement", using="css selector", value=selector)["value"]
-        self.call("WebDriver:ElementClick", id=found[ELEMENT])
+        self.call("WebDriver:ElementClick", id=self.find(selector)[ELEMENT])
+
+    def double_click(self, selector):
+        clicks = [{"type": name, "button": 0} for name in ("pointerDown", "pointerUp") * 2]
+        move = {"type": "pointerMove", "x": 0, "y": 0, "origin": self.find(selector)}
+        self.call("WebDriver:PerformActions", actions=[
+            {"type": "pointer", "id": "mouse", "parameters": {"pointerType": "mouse"}, "actions": [move, *clicks]}])
+
+    def find(self, selector):
+        return self.call("WebDriver:FindElement", using="css selector", value=selector)["value"]
 
     def press(self, *keys):
         codes = [KEYS.get(key, key) for key in keys]

@@ -119,6 +119,7 @@ def point_at_a_message(browser):
         "server 2, event 1: heard: sent 1 Accepted i0 b0", "Click the message to choose a receiver."], card)
     browser.run(POINT % json.dumps("#drawing .hit[data-m='2']"))
     same(browser, "the parts that are marked at an arrow", ["2 0", "m2", "over 2", "over 2"], browser.run(LIT))
+    same(browser, "the labels behind an arrow while message 2 is marked", [], browser.run(STRUCK))
     act(browser, "before 0")
     same(browser, "the card of message 0 before it is sent", [
         "Server 0 sends it to all servers later, at event 0.",

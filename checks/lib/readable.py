@@ -10,6 +10,8 @@ from page_user import URL, act, same
 # The least contrast that WCAG 2 asks for, and the least size of a target in pixels.
 LEAST_CONTRAST = 4.5
 LEAST_SIZE = 24
+# In pixels. The thumb of a slider takes some 20 of them.
+LEAST_SLIDER = 36
 
 # The contrast of each text of a later event with what is behind it. `alpha` is the product of all opacities.
 CONTRASTS = """
@@ -33,6 +35,10 @@ CONTRAST_IN_FIELD = CONTRASTS[:CONTRASTS.index("  const texts =")] + """
   const field = document.querySelector('#only-instance'), words = getComputedStyle(field, '::placeholder');
   const ground = parts(getComputedStyle(field).backgroundColor), [, , , alpha = 1] = parts(words.color);
   return ratio(over([...parts(words.color).slice(0, 3), alpha * parseFloat(words.opacity)], ground, 1), ground)"""
+# Whether the copy of a field's text, which only places the marks, can be seen, and whether the outline of the last
+# event's row is inside the row.
+FORCED = """const style = selector => getComputedStyle(document.querySelector(selector)), row = style('#rows .here');
+  return [style('.marked pre').color !== 'rgba(0, 0, 0, 0)', parseFloat(row.outlineOffset) <= -parseFloat(row.outlineWidth)]"""
 SMALL_BUTTONS = """return [...document.querySelectorAll('button, select')].map(part => [part, part.getBoundingClientRect()])
   .filter(([, box]) => box.width > 0 && Math.min(box.width, box.height) < %d - 0.5)
   .map(([part, box]) => `${part.outerHTML} ${box.width} ${box.height}`)""" % LEAST_SIZE
@@ -83,6 +89,8 @@ def look_at_contrasts(browser):
             measure(browser, scheme)
             with media(browser, "forced-colors", "active"):
                 measure(browser, f"{scheme}, forced colours")
+                same(browser, f"the text behind a field and the outline of a row ({scheme}, forced colours)",
+                     [False, True], browser.run(FORCED))
 
 
 def measure(browser, what):
@@ -355,6 +363,8 @@ def look_at_narrow_parts(browser, what):
       return [...document.querySelectorAll('#steps > *')].filter(part =>
         part.scrollWidth > part.clientWidth + 1 || part.getBoundingClientRect().right > bar.right).map(part => part.id)""")
     same(browser, f"the parts that are cut off in the bar of the steps at {what}", [], beyond)
+    slider = browser.run("return document.getElementById('slider').offsetWidth")
+    same(browser, f"whether the slider has room to move, {slider} px at {what}", True, slider >= LEAST_SLIDER)
     browser.open(URL + "#n=3&at=0&e=")
     right, room = browser.run("""return [document.getElementById('empty').getBoundingClientRect().right,
       document.documentElement.clientWidth].map(Math.round)""")

@@ -7,7 +7,7 @@ import os
 import re
 import sys
 
-from page_user import URL, act, do, same, schedule
+from page_user import URL, act, cursor, do, same, schedule
 from shared import TOP, fail
 
 sys.path.append(os.path.join(TOP, "conformance"))
@@ -59,6 +59,7 @@ def look(browser):
     same(browser, "the events after an insertion", WANTED, read(browser)["events"])
     take_out_the_sender(browser)
     undo_by_the_bar(browser)
+    undo_by_a_double_click(browser)
 
 
 def insert_into_drawn_schedules(browser):
@@ -118,3 +119,26 @@ def undo_by_the_bar(browser):
     browser.click("#undo")
     same(browser, "the message after an undo by the bar", [0, False], browser.run(MESSAGE))
     same(browser, "the events after the undo by the bar", 6, len(read(browser)["events"]))
+
+
+# Moves the message, so that its undo is in front of the button for the next event.
+COVER = """const middle = part => { const { left, top, width, height } = part.getBoundingClientRect();
+    return [left + width / 2, top + height / 2]; };
+  const toast = document.getElementById('toast'), next = document.getElementById('next');
+  Object.assign(toast.style, { margin: 0, right: 'auto', bottom: 'auto', left: 0, top: 0 });
+  const [x, y] = middle(toast.querySelector('button')), [toX, toY] = middle(next);
+  Object.assign(toast.style, { left: `${toX - x}px`, top: `${toY - y}px` });
+  return document.elementFromPoint(toX, toY).textContent"""
+
+
+def undo_by_a_double_click(browser):
+    """The first click removes the message. The second one must not reach what was behind it."""
+    browser.choose("#example", "one_command")
+    act(browser, "before 1")
+    browser.click('#dock [data-do="out"]')
+    same(browser, "the button in front of the next one", "undo", browser.run(COVER))
+    browser.double_click("#toast [data-undo]")
+    same(browser, "the cursor after a double click on the undo", "1 of 6", cursor(browser))
+    browser.click("#next")
+    same(browser, "the cursor after another click", "2 of 6", cursor(browser))
+    browser.run("document.getElementById('toast').removeAttribute('style')")

@@ -16,7 +16,7 @@ function pointedAt(part) {
   return mark ? { event: +mark.dataset.e } : null;
 }
 
-// Marks a message, or no message if the number is null. The arrows appear once more above the labels.
+// Marks a message, or no message if the number is null. Its arrows appear once more, in front of the other ones.
 function light(number) {
   for (const part of document.querySelectorAll('.lit')) part.classList.remove('lit');
   const over = $('over');

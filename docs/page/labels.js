@@ -43,10 +43,12 @@ function shortenLabels(svg, room) {
   }
 }
 
-// Puts the arrows, which are below the labels and marks, into one group.
+// Puts the arrows, which are below the labels and marks, into one group. Another group is for the arrows of the message
+// that is marked. They are in front of the other arrows, but below the labels too.
 function layArrowsBelow(svg) {
   const arrows = svg.querySelectorAll('.way');
-  if (arrows.length > 0) svg.querySelector('.event').before(svgEl('g', { class: 'ways' }, ...arrows));
+  const groups = [svgEl('g', { class: 'ways' }, ...arrows), svgEl('g', { id: 'over' })];
+  svg.querySelector('.event')?.before(...groups.slice(arrows.length > 0 ? 0 : 1));
 }
 
 // Gives each arrow a wide and invisible copy that is easy to point at, once the pointer is in the picture.

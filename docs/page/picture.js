@@ -122,7 +122,6 @@ function cutDrawing(svg, schedule, list) {
   svg.removeAttribute('role');
   const band = svgEl('rect', { id: 'band', x: picture.left, width: 9 * picture.width, height: 0 });
   svg.querySelector('.paper').after(band);
-  svg.append(svgEl('g', { id: 'over' }));
   picture.svg = svg;
 }
 

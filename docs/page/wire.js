@@ -121,7 +121,17 @@ function wireBar() {
     if (!target.closest('[data-undo]')) return;
     hideMessage();
     undo(page.past, page.future);
+    endDoubleClick();
   };
+}
+
+// The button that was clicked is gone, so the second click of a double click would reach what was behind it.
+function endDoubleClick() {
+  const stop = event => {
+    if (event.detail > 1) { event.preventDefault(); event.stopPropagation(); }
+    else removeEventListener('click', stop, true);
+  };
+  addEventListener('click', stop, true);
 }
 
 function wireStage() {
