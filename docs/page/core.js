@@ -22,6 +22,8 @@ class Core {
     this.whenStopped = whenStopped;
     this.exports = null;
     this.longest = {};
+    this.coder = new TextEncoder();
+    this.latest = { input: null, bytes: null };
   }
 
   start() {
@@ -45,6 +47,12 @@ class Core {
     return at;
   }
 
+  // A step makes several calls with the same input, which may be long, so the bytes of the latest one are kept.
+  bytesOf(input) {
+    if (this.latest.input !== input) this.latest = { input, bytes: this.coder.encode(input) };
+    return this.latest.bytes;
+  }
+
   // Makes one call with buffers of these sizes. Returns the lengths of both texts, and the texts or null if one of them
   // does not fit.
   attempt(words, input, rooms) {
@@ -60,11 +68,11 @@ class Core {
     return { status, lengths: [printed, said], texts };
   }
 
-  // The texts and the status of a call. The first attempt uses the buffer size that was enough for this task so far. If
-  // it is too small, the second attempt uses the lengths that the first one returned.
+  // The texts and the status of a call. The first attempt uses a buffer of 1 MB, or of the size that was enough for this
+  // task so far. If it is too small, the second attempt uses the lengths that the first one returned.
   answer(args, input) {
-    const coder = new TextEncoder(), task = args[0];
-    const words = coder.encode(args.map(word => word + '\0').join('')), bytes = coder.encode(input);
+    const task = args[0], bytes = this.bytesOf(input);
+    const words = this.coder.encode(args.map(word => word + '\0').join(''));
     const room = this.longest[task] ?? 65536;
     let found = this.attempt(words, bytes, [room, 4096]);
     if (!found.texts) found = this.attempt(words, bytes, found.lengths);

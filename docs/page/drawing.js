@@ -26,6 +26,9 @@ function diceOf(seed) {
 // long schedule has many of them.
 const keyOfPair = (number, server) => 8 * number + server;
 
+// Whether a time is over at which a message or a server is late or cut off. It may be undefined.
+const isOver = (end, time) => end === undefined || end <= time;
+
 class Drawing {
   // `isAccepted` tells whether the program accepts an event after a schedule.
   constructor(dice, isAccepted) {
@@ -182,13 +185,13 @@ class Drawing {
     const near = this.onWay.filter(pair => this.reaches(pair));
     if (near.length === 0) return null;
     if (this.chance(20)) return this.handOver(this.pick(near));
-    return this.handOver(near.findLast(pair => this.isAwaited(pair)) ?? near[0]);
+    const ahead = this.all.reduce((one, other) => (this.next[other] > this.next[one] ? other : one));
+    return this.handOver(near.findLast(pair => this.isAwaited(pair, ahead)) ?? near[0]);
   }
 
-  // Whether the message helps the server that executed most to learn its next instance. The messages of that instance
-  // decide it, or a Skip of its owner does. The owner sends a Skip once it hears a Suggest at a later instance.
-  isAwaited({ number, to }) {
-    const ahead = this.all.reduce((one, other) => (this.next[other] > this.next[one] ? other : one));
+  // Whether the message helps the server `ahead`, which executed most, to learn its next instance. The messages of that
+  // instance decide it, or a Skip of its owner does. The owner sends a Skip once it hears a Suggest at a later instance.
+  isAwaited({ number, to }, ahead) {
     const { kind, from, instance } = this.trace.messages[number], next = this.next[ahead], owner = next % this.servers;
     if (kind === 'Skip') return to === ahead && from === owner;
     if (kind === 'Suggest' && instance > next) return to === owner;
@@ -197,8 +200,9 @@ class Drawing {
 
   // Whether the message is neither late nor between servers of which one is cut off.
   reaches({ number, to }) {
-    const isOver = end => end === undefined || end <= this.time, { from } = this.trace.messages[number];
-    return isOver(this.late.get(keyOfPair(number, to))) && [from, to].every(server => isOver(this.cuts.get(server)));
+    const { time, cuts } = this, { from } = this.trace.messages[number];
+    return isOver(this.late.get(keyOfPair(number, to)), time) && isOver(cuts.get(from), time)
+      && isOver(cuts.get(to), time);
   }
 
   // Whether the receiver of a message has not learned its instance yet, or may need the message nevertheless.

@@ -71,7 +71,7 @@ const TRACES_KEPT = 4;
 const traces = new Map();
 // The traces of a long schedule often begin with the same lines, so traces of some beginnings are kept too. There are
 // at most this many in one trace, and at least this many letters between two of them.
-const BEGINNINGS = 16, LEAST_LETTERS = 50_000;
+const BEGINNINGS = 16, LEAST_LETTERS = 8_000;
 const beginnings = [];
 
 function traceOf(schedule) {

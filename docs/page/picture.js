@@ -226,7 +226,8 @@ function showLane(place) {
   if (!isSeen) stage.scrollLeft = Math.min(last, Math.max(first, lane - room / 2));
 }
 
-// Scrolls the stage so that a row is between the servers' names and the dock. A hint is above the names.
+// Scrolls the stage so that a row is between the servers' names and the dock. A hint is above the names. A row that is
+// not in sight comes to the middle, because then most of the next steps need not scroll.
 function showRow(row) {
   const stage = $('stage'), isSticky = getComputedStyle($('dock')).position === 'sticky';
   if (!isSticky) return;
@@ -235,8 +236,8 @@ function showRow(row) {
   const top = origin + row.top * picture.zoom, bottom = top + row.height * picture.zoom;
   const seen = stage.clientHeight - below - $('hint').offsetHeight;
   const highest = top - above - 40, lowest = bottom - seen + 60;
-  if (stage.scrollTop > highest || lowest > highest) stage.scrollTop = highest;
-  else if (stage.scrollTop < lowest) stage.scrollTop = lowest;
+  if (lowest > highest) stage.scrollTop = highest;
+  else if (stage.scrollTop > highest || stage.scrollTop < lowest) stage.scrollTop = (highest + lowest) / 2;
 }
 
 const NARROW = matchMedia('(max-width: 900px)');
