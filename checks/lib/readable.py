@@ -319,7 +319,9 @@ def look_at_labels_beside_the_events(browser, what):
     also if they are as long as in the middle of a long schedule."""
     again = ["deliver 0 0"] * 60
     late = [*moving_picture.many_events(10), *again, "deliver 2 0", "submit 1 2.0 set a y", "deliver 30 2", "deliver 30 1"]
-    for events in (moving_picture.LATE, late):
+    # Every second event is at a server that does not exist, and so it is left of all lanes.
+    outside = ["submit 2 1.0 set a x", "execute 5", "execute 2", "deliver 0 9"] * 3
+    for events in (moving_picture.LATE, late, outside):
         browser.open(moving_picture.link(events))
         for place in range(len(events), len(events) - 12, -1):
             act(browser, f"before {place}")
@@ -328,6 +330,13 @@ def look_at_labels_beside_the_events(browser, what):
     for place in range(1, 20):
         act(browser, f"before {place}")
         same(browser, f"the hidden labels of an example at {what} after {place} events", [], browser.run(HIDDEN_LABELS))
+    # The first schedule is short, so the picture gets a scroll bar with the long one.
+    browser.open(URL)
+    files.drop(browser, "long.json", json.dumps({"version": 1, "servers": 3, "events": moving_picture.many_events(40)}))
+    for place in (1, 2, 100, 101):
+        act(browser, f"before {place}")
+        browser.wait(f"return (() => {{ {HIDDEN_LABELS} }})().length === 0",
+                     f"the labels beside the events at {what}, after {place} events of a file")
 
 
 def look_at_senders(browser):

@@ -155,6 +155,8 @@ function makeRoomForNumbers(length) {
   picture.digits = digits;
   $('stage').style.setProperty('--digits', digits);
   measure();
+  // The new picture may need a scroll bar that the stage does not have yet.
+  later('room', 0, resized);
 }
 
 // Stores the width that is available for a picture, and the height that is in sight.
@@ -215,11 +217,13 @@ function markCursor(cursor) {
 }
 
 // Scrolls the stage so that the lane and the labels of an event are in sight. If there is no room for both labels, the
-// left one is in sight, because otherwise it would be behind the list of the events.
+// left one is in sight, because otherwise it would be behind the list of the events. An event at a server that the
+// cluster does not have is left of all lanes.
 function showLane(place) {
-  const stage = $('stage'), { drawn, svg, left, zoom, room } = picture;
-  const words = drawn.schedule.events[place].split(' '), isWay = ['deliver', 'lose'].includes(words[0]);
-  const lane = (FIRST_LANE - left + APART * +words[isWay ? 2 : 1]) * zoom;
+  const stage = $('stage'), { svg, left, zoom, room } = picture;
+  const label = svg.querySelector(`.event[data-e="${place}"] .cause`);
+  if (!label) return;
+  const lane = (laneOf(label) - left) * zoom;
   const [before, after] = reachesOf(svg, place).map(reach => Math.max(reach, APART / 2) * zoom);
   const last = Math.max(lane - before, lane + BESIDE.cause - room), first = Math.min(lane + after - room, last);
   const isSeen = first <= stage.scrollLeft && stage.scrollLeft <= last;
