@@ -68,7 +68,7 @@ class Core {
     return { status, lengths: [printed, said], texts };
   }
 
-  // The texts and the status of a call. The first attempt uses a buffer of 1 MB, or of the size that was enough for this
+  // The texts and the status of a call. The first attempt uses a buffer of 64 KB, or of the size that was enough for this
   // task so far. If it is too small, the second attempt uses the lengths that the first one returned.
   answer(args, input) {
     const task = args[0], bytes = this.bytesOf(input);
