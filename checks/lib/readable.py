@@ -77,6 +77,7 @@ def look(browser):
             look_at_a_message(browser, f"{width}×{height}")
             look_at_rows_below_a_message(browser, f"{width}×{height}")
             look_at_labels_beside_the_events(browser, f"{width}×{height}")
+            look_at_a_high_row(browser, f"{width}×{height}")
             look_at_a_log(browser, f"{width}×{height}")
             look_at_the_focus_below_the_lanes(browser, f"{width}×{height}")
             look_at_choices_below_a_message(browser, f"{width}×{height}")
@@ -337,6 +338,22 @@ def look_at_labels_beside_the_events(browser, what):
         act(browser, f"before {place}")
         browser.wait(f"return (() => {{ {HIDDEN_LABELS} }})().length === 0",
                      f"the labels beside the events at {what}, after {place} events of a file")
+
+
+# The height of the last event's row, and its distances from the names above it and from the part below the lanes.
+HIGH_ROW = """const box = selector => document.querySelector(selector).getBoundingClientRect(), row = box('#rows .here');
+  return [row.height, row.top - box('#heads').bottom, box('#dock').top - row.bottom].map(Math.round)"""
+
+
+def look_at_a_high_row(browser, what):
+    """A suspicion sends a message for each instance of a server, so its row is high."""
+    events = [*moving_picture.many_events(5), *[f"submit 1 2.{number} set a x" for number in range(5)], "suspect 1 0"]
+    browser.open(moving_picture.link(events))
+    act(browser, f"before {len(events) - 1}")
+    act(browser, f"before {len(events)}")
+    height, above, below = browser.run(HIGH_ROW)
+    same(browser, f"whether a row of {height} px is {above} px below the names and {below} px above the servers at {what}",
+         True, above >= 0 and below >= 0)
 
 
 def look_at_senders(browser):

@@ -240,7 +240,8 @@ function showRow(row) {
   const top = origin + row.top * picture.zoom, bottom = top + row.height * picture.zoom;
   const seen = stage.clientHeight - below - $('hint').offsetHeight;
   const highest = top - above - 40, lowest = bottom - seen + 60;
-  if (lowest > highest) stage.scrollTop = highest;
+  // A row that is too high for these margins has smaller ones.
+  if (lowest > highest) stage.scrollTop = Math.max(highest, Math.min(bottom - seen, top - above));
   else if (stage.scrollTop > highest || stage.scrollTop < lowest) stage.scrollTop = (highest + lowest) / 2;
 }
 
