@@ -198,6 +198,8 @@ def filter_events(browser):
     browser.choose("#only-instance", "6")
     about = list(range(12, 18))
     same(browser, "the events about instance 6, and the last one", [about + [47]] * 2, shown(browser))
+    rules = browser.run("return [...document.querySelectorAll('#drawing .rule')].map(rule => rule.getAttribute('d'))")
+    same(browser, "the rules, without those that are on top of others", sorted(set(rules)), sorted(rules))
     browser.click("#first")
     same(browser, "the events about instance 6", [about] * 2, shown(browser))
     browser.choose("#only-server", "0")

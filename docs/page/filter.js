@@ -93,7 +93,11 @@ function moveUp(svg, placeOf) {
   for (const line of svg.querySelectorAll('.lane .line')) {
     line.setAttribute('d', line.getAttribute('d').replace(/V(\d+)/, (_, y) => `V${placeOf(+y)}`));
   }
+  // The rules of the hidden rows of a gap have one place. On top of each other they would be a dark line.
+  const places = new Set();
   for (const rule of svg.querySelectorAll('.rule')) {
-    rule.setAttribute('d', rule.getAttribute('d').replace(/M0 (\d+)/, (_, y) => `M0 ${placeOf(+y)}`));
+    const d = rule.getAttribute('d').replace(/M0 (\d+)/, (_, y) => `M0 ${placeOf(+y)}`);
+    if (places.has(d)) rule.remove(); else rule.setAttribute('d', d);
+    places.add(d);
   }
 }
