@@ -68,12 +68,12 @@ class Core {
     return { status, lengths: [printed, said], texts };
   }
 
-  // The texts and the status of a call. The first attempt uses a buffer of 64 KB, or of the size that was enough for this
+  // The texts and the status of a call. The first attempt uses a buffer of 1 MB, or of the size that was enough for this
   // task so far. If it is too small, the second attempt uses the lengths that the first one returned.
   answer(args, input) {
     const task = args[0], bytes = this.bytesOf(input);
     const words = this.coder.encode(args.map(word => word + '\0').join(''));
-    const room = this.longest[task] ?? 65536;
+    const room = this.longest[task] ?? 1_000_000;
     let found = this.attempt(words, bytes, [room, 4096]);
     if (!found.texts) found = this.attempt(words, bytes, found.lengths);
     this.longest[task] = Math.max(room, Math.floor(1.5 * found.lengths[0]));

@@ -182,11 +182,11 @@ class Drawing {
 
   // Delivers a useful message. Usually a server waits for it, or it is the oldest one.
   deliver() {
-    const near = this.onWay.filter(pair => this.reaches(pair));
-    if (near.length === 0) return null;
-    if (this.chance(20)) return this.handOver(this.pick(near));
+    const reaches = pair => this.reaches(pair), oldest = this.onWay.find(reaches);
+    if (!oldest) return null;
+    if (this.chance(20)) return this.handOver(this.pick(this.onWay.filter(reaches)));
     const ahead = this.all.reduce((one, other) => (this.next[other] > this.next[one] ? other : one));
-    return this.handOver(near.findLast(pair => this.isAwaited(pair, ahead)) ?? near[0]);
+    return this.handOver(this.onWay.findLast(pair => this.isAwaited(pair, ahead) && reaches(pair)) ?? oldest);
   }
 
   // Whether the message helps the server `ahead`, which executed most, to learn its next instance. The messages of that

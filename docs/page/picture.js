@@ -239,6 +239,7 @@ function showRow(row) {
   const origin = $('picture').offsetTop, above = $('heads').offsetHeight, below = $('dock').offsetHeight;
   const top = origin + row.top * picture.zoom, bottom = top + row.height * picture.zoom;
   const seen = stage.clientHeight - below - $('hint').offsetHeight;
+  picture.sight = seen - above;
   const highest = top - above - 40, lowest = bottom - seen + 60;
   // A row that is too high for these margins has smaller ones.
   if (lowest > highest) stage.scrollTop = Math.max(highest, Math.min(bottom - seen, top - above));
